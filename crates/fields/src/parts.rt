@@ -1,0 +1,34 @@
+ghost use Prim.Native.Nat.{_+_, _<_, _^_};
+ghost use lib.ListN.{length};
+
+// Where a part of the text begins: its line, counted from 1, and its byte, counted from 0 over the whole text.
+#[derive(Clone, Copy)]
+pub struct Place {
+    pub line: usize,
+    pub byte: usize,
+}
+
+// A part of the text: where it begins, and its bytes, which are borrowed from the text.
+#[derive(Clone, Copy)]
+pub struct Part<'a> {
+    pub place: Place,
+    pub bytes: &'a [u8],
+}
+
+// A text that is handed out line after line, and each line field after field.
+// The ghost fields say that no place can wrap.
+#[derive(Drop)]
+pub struct Reader<'a> {
+    // what is left of the line that was handed out last
+    pub(crate) line: Part<'a>,
+    // whether a field of that line is still to come
+    pub(crate) open: bool,
+    // how many lines were handed out
+    pub(crate) count: usize,
+    // what is left of the text, and the byte where that begins
+    pub(crate) at: usize,
+    pub(crate) rest: &'a [u8],
+    ghost inside: { line .place .byte + length (line .bytes .now) < 2 ^ 64 },
+    ghost ahead: { at + length (rest .now) < 2 ^ 64 },
+    ghost counted: { count + length (rest .now) < 2 ^ 64 },
+}
