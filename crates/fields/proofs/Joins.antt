@@ -38,7 +38,7 @@ join-onto b x [] h = absurd (omega arith)
 join-onto b x (p ∷ []) h = refl
 join-onto b x (p ∷ q ∷ ps) h = refl
 
-join-split : (b : ℕ) (xs : List ℕ) → rejoined b (split b xs) ≡ xs
+pub join-split : (b : ℕ) (xs : List ℕ) → rejoined b (split b xs) ≡ xs
 join-split b [] = refl
 join-split b (x ∷ xs) =
     let some = split-some b xs in

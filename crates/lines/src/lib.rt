@@ -1,10 +1,13 @@
 // The lines of a scenario: what each says, or what is wrong with it.
 mod entries;
 mod faults;
+mod next;
+mod shapes;
 mod types;
 mod words;
 
 pub use faults::LineFromField;
+pub use next::next_entry;
 pub use types::BoardName;
 pub use types::Call;
 pub use types::CallParts;

@@ -1,0 +1,4 @@
+pub mod Solid
+pub mod Firsts
+pub mod Texts
+pub mod Once
