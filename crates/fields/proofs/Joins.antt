@@ -9,7 +9,7 @@ use lib.Dec.{eqb}
 use lib.ListN.{length, take, drop, length-append}
 use Rattle.std.specs.Finite.{All}
 use Rattle.std.specs.Pieces.{rejoined}
-use Rattle.std.proofs.shelf.Lists.{nil-from-length, length-drop, drop-all}
+use Rattle.std.proofs.shelf.Lists.{nil-from-length, length-drop, drop-all, drop-drop, drop-append-le, take-at, take-append-le}
 use Rattle.std.proofs.shelf.Tests.{cond-true, cond-false, cond-both, cases-bool, cases-lt, eqb-true, eqb-false, eq-eqb, ne-eqb}
 use Rattle.std.specs.declared.option.Option.{Option}
 use Rattle.std.specs.declared.option.Option.the-variants.{Some, None}
@@ -112,31 +112,9 @@ abbrev Lie : ℕ → List ℕ → ℕ → List (List ℕ) → Type 0
 Lie a text byte [] = Unit {0}
 Lie a text byte (p ∷ ps) = (take (length p) (drop (byte - a) text) ≡ p) × Lie a text (suc (byte + length p)) ps
 
-take-front : (p rest : List ℕ) → take (length p) (p ++ rest) ≡ p
-take-front [] rest = refl
-take-front (x ∷ p) rest = ap (λ l. x ∷ l) (take-front p rest)
-
-take-before : (k : ℕ) (xs ys : List ℕ) → k ≤ length xs → take k (xs ++ ys) ≡ take k xs
-take-before zero [] ys h = refl
-take-before zero (x ∷ xs) ys h = refl
-take-before (suc k) [] ys h = absurd (omega arith)
-take-before (suc k) (x ∷ xs) ys h = ap (λ l. x ∷ l) (take-before k xs ys (omega arith))
-
-drop-front : (p : List ℕ) (b : ℕ) (rest : List ℕ) → drop (suc (length p)) (p ++ (b ∷ rest)) ≡ rest
-drop-front [] b rest = refl
-drop-front (x ∷ p) b rest = drop-front p b rest
-
-drop-before : (k : ℕ) (xs ys : List ℕ) → k ≤ length xs → drop k (xs ++ ys) ≡ drop k xs ++ ys
-drop-before zero [] ys h = refl
-drop-before zero (x ∷ xs) ys h = refl
-drop-before (suc k) [] ys h = absurd (omega arith)
-drop-before (suc k) (x ∷ xs) ys h = drop-before k xs ys (omega arith)
-
-drop-drop : (j k : ℕ) (xs : List ℕ) → drop j (drop k xs) ≡ drop (k + j) xs
-drop-drop j zero [] = ap (λ n. drop n []) (let e : j ≡ 0 + j = omega arith in e)
-drop-drop j (suc k) [] = drop-all j [] (omega arith) ∙ sym (drop-all (suc k + j) [] (omega arith))
-drop-drop j zero (x ∷ xs) = ap (λ n. drop n (x ∷ xs)) (let e : j ≡ 0 + j = omega arith in e)
-drop-drop j (suc k) (x ∷ xs) = drop-drop j k xs ∙ ap (λ n. drop n (x ∷ xs)) (let e : suc (k + j) ≡ suc k + j = omega arith in e)
+after-part : (p : List ℕ) (b : ℕ) (rest : List ℕ) → drop (suc (length p)) (p ++ (b ∷ rest)) ≡ rest
+after-part [] b rest = refl
+after-part (x ∷ p) b rest = after-part p b rest
 
 lie : (b a : ℕ) (text : List ℕ) (byte : ℕ) (ps : List (List ℕ)) (t : List ℕ) → a ≤ byte → length t ≤ 1 → drop (byte - a) text ++ t ≡ ended b ps → Lie a text byte ps
 lie b a text byte [] t low short e = tt
@@ -144,11 +122,11 @@ lie b a text byte (p ∷ ps) t low short e =
     let rest : List ℕ = drop (byte - a) text in
     let sizes : length rest + length t ≡ length p + suc (length (ended b ps)) = sym (length-append rest t) ∙ ap length e ∙ length-append p (b ∷ ended b ps) in
     let next : drop (suc (length p)) rest ≡ drop (suc (byte + length p) - a) text = drop-drop (suc (length p)) (byte - a) text ∙ ap (λ n. drop n text) (let q : (byte - a) + suc (length p) ≡ suc (byte + length p) - a = omega arith in q) in
-    (sym (take-before (length p) rest t (omega arith)) ∙ ap (take (length p)) e ∙ take-front p (b ∷ ended b ps),
+    (sym (take-append-le (length p) rest t (omega arith)) ∙ ap (take (length p)) e ∙ take-at p (b ∷ ended b ps) (length p) refl,
      ⊎-elim
        (λ (h : length p < length rest).
          lie b a text (suc (byte + length p)) ps t (omega arith) short
-           (ap (λ l. l ++ t) (sym next) ∙ sym (drop-before (suc (length p)) rest t (omega arith)) ∙ ap (drop (suc (length p))) e ∙ drop-front p b (ended b ps)))
+           (ap (λ l. l ++ t) (sym next) ∙ sym (drop-append-le (suc (length p)) rest t (omega arith)) ∙ ap (drop (suc (length p))) e ∙ after-part p b (ended b ps)))
        (λ (h : length rest ≤ length p).
          lie b a text (suc (byte + length p)) ps [] (omega arith) (omega arith)
            (ap (λ l. l ++ []) (sym next ∙ drop-all (suc (length p)) rest (omega arith)) ∙ sym (nil-from-length (ended b ps) (omega arith))))

@@ -23,6 +23,7 @@ use Rattle.lines.specs.declared.types.Word.{Word}
 use Rattle.lines.specs.declared.types.Word.the-variants as word
 use Rattle.lines.specs.declared.types.Entry.{Entry}
 use Rattle.lines.specs.declared.types.Entry.the-variants as entry
+use Rattle.lines.specs.declared.types.LineEntry.{LineEntry}
 use Rattle.lines.specs.declared.types.Stage.{Stage}
 use Rattle.lines.specs.declared.types.Stage.the-variants as stage
 use Rattle.lines.specs.declared.types.LineFault.{LineFault}
@@ -138,9 +139,9 @@ LineRead s line (Ok e) = Says (line .1) e × Placed s (wordOf e)
 LineRead s line (Err f) = Refused s line f
 
 -- the next of the lines is read, and the others are left; None where no line is left
-abbrev pub NextRead : Stage → List Piece → List Piece → Option (Result Entry LineFault) → Type 0
+abbrev pub NextRead : Stage → List Piece → List Piece → Option LineEntry → Type 0
 NextRead s before after None = (before ≡ []) × (after ≡ [])
-NextRead s before after (Some r) = (line : Piece) × (before ≡ line ∷ after) × LineRead s line r
+NextRead s before after (Some r) = (bytes : List ℕ) × (before ≡ (r .place, bytes) ∷ after) × LineRead s (r .place, bytes) (r .said)
 
 -- a line is read in one way
 abbrev pub LineOnce : Type 0

@@ -8,6 +8,7 @@ use crate::faults::LineFromField;
 use crate::shapes::shape;
 use crate::types::Entry;
 use crate::types::Line;
+use crate::types::LineEntry;
 use crate::types::LineFault;
 use crate::types::Stage;
 use crate::types::Word;
@@ -74,10 +75,14 @@ fn line_entry<'a>(stage: Stage, line: Part<'a>, reader: &mut Reader<'a>) -> Resu
 }
 
 // What the next line says, after lines that led to this stage; None where no line is left.
-pub fn next_entry(stage: Stage, reader: &mut Reader) -> Option<Result<Entry, LineFault>>
+pub fn next_entry(stage: Stage, reader: &mut Reader) -> Option<LineEntry>
     ensures next { λ r. ⌜ NextRead stage (linesLeft (now (reader .entry))) (linesLeft (now (reader .exit))) r ⌝ }
     ensures once { λ _. ⌜ LineOnce ⌝ }
 {
     let line = reader.next_line()?;
-    Some(line_entry(stage, line, reader))
+    let said = line_entry(stage, line, reader);
+    Some(LineEntry {
+        place: line.place,
+        said,
+    })
 }

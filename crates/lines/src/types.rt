@@ -131,3 +131,10 @@ pub enum LineFault {
     Miscounted(Place),
     TooLong,
 }
+
+// What a line was read as, and where it begins.
+#[derive(Clone, Copy)]
+pub struct LineEntry {
+    pub place: Place,
+    pub said: Result<Entry, LineFault>,
+}
