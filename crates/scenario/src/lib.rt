@@ -1,0 +1,14 @@
+// A whole scenario: what its text says, line by line, up to the first fault.
+mod faults;
+mod read;
+mod types;
+
+pub use faults::ReadFromAlloc;
+pub use faults::ReadFromRig;
+pub use faults::RigFromLine;
+pub use types::Layer;
+pub use types::ReadError;
+pub use types::Reading;
+pub use types::Report;
+pub use types::RigFault;
+pub use types::Scenario;
