@@ -1,5 +1,6 @@
 -- Reading on, line after line.
 use mathlib.Core.Path.{_≡_, refl, sym, ap, subst, _∙_}
+use mathlib.Core.Logic.{⊎-elim}
 use mathlib.Core.List.{List, [], _∷_, _++_, map, append-assoc, append-nil}
 use Prim.Native.Nat.{ℕ, suc, _+_, _<_, _≤_}
 use native.Mathlib.Omega.{arith}
@@ -9,7 +10,7 @@ use Rattle.std.specs.declared.option.Option.{Option}
 use Rattle.std.specs.declared.option.Option.the-variants.{Some, None}
 use Rattle.std.specs.declared.result.Result.{Result}
 use Rattle.std.specs.declared.result.Result.the-variants.{Ok, Err}
-use Rattle.fields.specs.Parts.{Piece}
+use Rattle.fields.specs.Parts.{Piece, textStart}
 use Rattle.lines.specs.declared.types.RigLine.{RigLine}
 use Rattle.lines.specs.declared.types.Setting.{Setting}
 use Rattle.lines.specs.declared.types.HeadCall.{HeadCall}
@@ -19,12 +20,16 @@ use Rattle.lines.specs.declared.types.Stage.{Stage}
 use Rattle.lines.specs.declared.types.Stage.the-variants as stage
 use Rattle.lines.specs.declared.types.Word.{Word}
 use Rattle.lines.specs.declared.types.Word.the-variants as word
+use Rattle.lines.specs.declared.types.LineFault.the-variants as inLine
 use Rattle.lines.specs.Entries.{wordOf}
 use Rattle.lines.specs.Faults.{Placed, stageAfter}
 use Rattle.scenario.specs.declared.types.RigFault.{RigFault}
-use Rattle.scenario.specs.Texts.{RigRead, LinesRead, Start}
-use Rattle.scenario.specs.Holdings.{rigLine, inOrder}
-use Rattle.scenario.specs.Steps.{Held, nothing, listed, put, Orderly, stageAt}
+use Rattle.scenario.specs.declared.types.RigFault.the-variants as inRig
+use Rattle.scenario.specs.declared.types.ReadError.{ReadError}
+use Rattle.scenario.specs.declared.types.ReadError.the-variants as error
+use Rattle.scenario.specs.Texts.{RigRead, LinesRead, Start, linesOfText, Says-text, long, empty, lined}
+use Rattle.scenario.specs.Holdings.{rigLine, inOrder, Read}
+use Rattle.scenario.specs.Steps.{Held, nothing, listed, put, Orderly, stageAt, Sized, Ends}
 
 -- an entry that may stand at a stage goes to the end of what is held
 
@@ -137,3 +142,16 @@ pub come-last : (lines left : List Piece) (s : Stage) (h : Held) → Come lines 
 come-last lines left s h come e =
     let P : List Piece → Type 0 = λ x. LinesRead Start x (listed h) None in
     subst P (sym (come .are ∙ ap (λ x. come .done ++ x) e ∙ append-nil (come .done))) (come .read)
+
+-- the whole text
+
+pub text-ends : (text : List ℕ) (es : List Entry) (r : Result (Unit {0}) ReadError) → (0 < length text) × (length text ≤ 65536) → Ends (linesOfText text) es r → Read text es r
+text-ends text es (Ok _) (some, short) h = lined es None some short h
+text-ends text es (Err (error.Fault f)) (some, short) h = lined es (Some f) some short h
+text-ends text es (Err error.NoMemory) (some, short) h = h
+
+pub text-unsized : (text : List ℕ) (f : RigFault) (h : Held) → h ≡ nothing → Sized text (Err f) → Read text (listed h) (Err (error.Fault f))
+text-unsized text f h e s =
+    let P : List Entry → Type 0 = λ x. Says-text text x (Some f) in
+    let Q : RigFault → Type 0 = λ x. Says-text text [] (Some x) in
+    subst P (sym (ap listed e)) (⊎-elim (λ (x : (65536 < length text) × (f ≡ inRig.Line inLine.TooLong)). subst Q (sym (x .1)) (long (x .0))) (λ (x : (length text ≡ 0) × (f ≡ inRig.Line (inLine.Misplaced textStart))). subst Q (sym (x .1)) (empty (x .0))) s)

@@ -17,7 +17,6 @@ use Rattle.lines.specs.declared.types.Entry.{Entry}
 use Rattle.lines.specs.declared.types.Entry.the-variants as entry
 use Rattle.lines.specs.declared.types.Stage.{Stage}
 use Rattle.lines.specs.declared.types.Stage.the-variants as stage
-use Rattle.lines.specs.declared.types.LineFault.{LineFault}
 use Rattle.lines.specs.declared.types.LineFault.the-variants as inLine
 use Rattle.lines.specs.Faults.{stageAfter}
 use Rattle.scenario.specs.declared.types.RigFault.{RigFault}
@@ -61,9 +60,9 @@ stageAt s [] = s
 stageAt s (e ∷ es) = stageAt (stageAfter s e) es
 
 -- a text whose lines are read: not too long, and not empty
-abbrev pub Sized : List ℕ → Result (Unit {0}) LineFault → Type 0
+abbrev pub Sized : List ℕ → Result (Unit {0}) RigFault → Type 0
 Sized text (Ok _) = (0 < length text) × (length text ≤ 65536)
-Sized text (Err f) = ((65536 < length text) × (f ≡ inLine.TooLong)) ⊎ ((length text ≡ 0) × (f ≡ inLine.Misplaced textStart))
+Sized text (Err f) = ((65536 < length text) × (f ≡ inRig.Line inLine.TooLong)) ⊎ ((length text ≡ 0) × (f ≡ inRig.Line (inLine.Misplaced textStart)))
 
 -- the lines say what is held, all of them or up to the fault; where memory ran out, the first of them do
 abbrev pub Ends : List Piece → List Entry → Result (Unit {0}) ReadError → Type 0

@@ -1,11 +1,12 @@
 // A whole scenario: what its text says, line by line, up to the first fault.
 mod faults;
-mod read;
+mod texts;
 mod types;
 
 pub use faults::ReadFromAlloc;
 pub use faults::ReadFromRig;
 pub use faults::RigFromLine;
+pub use texts::read;
 pub use types::Layer;
 pub use types::ReadError;
 pub use types::Reading;

@@ -60,14 +60,15 @@ fn rig_entry(stage: Stage, line: LineEntry) -> Result<Entry, RigFault>
 const LONGEST: usize = 65_536;
 
 // That the text has a line to begin with, and is not too long.
-fn sized(text: &[u8]) -> Result<(), LineFault>
+fn sized(text: &[u8]) -> Result<(), RigFault>
     ensures { λ r. ⌜ Sized (now (text .entry)) r ⌝ }
 {
     if text.len() > LONGEST {
-        return Err(LineFault::TooLong);
+        return Err(RigFault::Line(LineFault::TooLong));
     }
     if text.len() == 0 {
-        return Err(LineFault::Misplaced(Place { line: 1, byte: 0 }));
+        let start = Place { line: 1, byte: 0 };
+        return Err(RigFault::Line(LineFault::Misplaced(start)));
     }
     Ok(())
 }
@@ -105,4 +106,27 @@ fn take_lines(scenario: &mut Scenario, text: &[u8]) -> Result<(), ReadError>
         stage = stage.after(said);
     }
     Ok(())
+}
+
+// Takes in what the text says, after a look at its size.
+fn take_text(scenario: &mut Scenario, text: &[u8]) -> Result<(), ReadError>
+    requires { ⌜ held (now scenario) ≡ nothing ⌝ }
+    ensures { λ r. ⌜ Read (now (text .entry)) (entriesOf (now (scenario .exit))) r ⌝ }
+{
+    sized(text)?;
+    take_lines(scenario, text)
+}
+
+// What the text says, up to its first fault.
+pub fn read(heap: Global, text: &[u8]) -> Reading
+    ensures says { λ r. ⌜ Read (now (text .entry)) (entriesOf (r .scenario)) (r .end) ⌝ }
+    ensures once { λ _. ⌜ TextOnce ⌝ }
+{
+    let mut scenario = Scenario {
+        rig: None,
+        settings: Vec::new(heap),
+        calls: Vec::new(heap),
+    };
+    let end = take_text(&mut scenario, text);
+    Reading { scenario, end }
 }

@@ -1,6 +1,6 @@
 use Rattle.std.proofs.shelf.Results.{err-from-errBy}
 use Rattle.scenario.proofs.Onward.{come-next, come-fault, come-short}
-use Rattle.scenario.proofs.read.take_lines.Needs as need
+use Rattle.scenario.proofs.texts.take_lines.Needs as need
 
 pub returns-in-Break-said : need.returns-in-Break-said
 returns-in-Break-said c =
