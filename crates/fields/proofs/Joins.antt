@@ -72,13 +72,24 @@ split-joined b (p ∷ q ∷ ps) h (a, r) = split-next b p (rejoined b (q ∷ ps)
 
 -- lines
 
+-- lines without a newline, put together and parted again, are as they were
+lines-next : (l rest : List ℕ) → Without 10 l → linesOf (l ++ (10 ∷ rest)) ≡ l ∷ linesOf rest
+lines-next [] rest a = refl
+lines-next (x ∷ l) rest (h, a) = cond-false (eqb x 10) ([] ∷ linesOf (l ++ (10 ∷ rest))) (onto x (linesOf (l ++ (10 ∷ rest)))) (ne-eqb x 10 h) ∙ ap (onto x) (lines-next l rest a)
+
 pub lines-ended : (lines : List (List ℕ)) → All (Without 10) lines → linesOf (ended 10 lines) ≡ lines
 lines-ended [] a = refl
-lines-ended (l ∷ ls) (a, r) = one l (ended 10 ls) a ∙ ap (λ x. l ∷ x) (lines-ended ls r)
-  where
-    one : (l rest : List ℕ) → Without 10 l → linesOf (l ++ (10 ∷ rest)) ≡ l ∷ linesOf rest
-    one [] rest a = refl
-    one (x ∷ l) rest (h, a) = cond-false (eqb x 10) ([] ∷ linesOf (l ++ (10 ∷ rest))) (onto x (linesOf (l ++ (10 ∷ rest)))) (ne-eqb x 10 h) ∙ ap (onto x) (one l rest a)
+lines-ended (l ∷ ls) (a, r) = lines-next l (ended 10 ls) a ∙ ap (λ x. l ∷ x) (lines-ended ls r)
+
+line-last : (l : List ℕ) → 0 < length l → Without 10 l → linesOf l ≡ l ∷ []
+line-last [] some a = absurd (omega arith)
+line-last (x ∷ []) some (h, a) = cond-false (eqb x 10) ([] ∷ []) ((x ∷ []) ∷ []) (ne-eqb x 10 h)
+line-last (x ∷ y ∷ ys) some (h, a) = cond-false (eqb x 10) ([] ∷ linesOf (y ∷ ys)) (onto x (linesOf (y ∷ ys))) (ne-eqb x 10 h) ∙ ap (onto x) (line-last (y ∷ ys) (omega arith) a)
+
+pub lines-rejoined : (lines : List (List ℕ)) → 0 < length lines → All (λ (l : List ℕ). Without 10 l × (0 < length l)) lines → linesOf (rejoined 10 lines) ≡ lines
+lines-rejoined [] some a = absurd (omega arith)
+lines-rejoined (l ∷ []) some ((a, h), r) = line-last l h a
+lines-rejoined (l ∷ m ∷ ls) some ((a, h), r) = lines-next l (rejoined 10 (m ∷ ls)) a ∙ ap (λ x. l ∷ x) (lines-rejoined (m ∷ ls) (omega arith) r)
 
 -- the lines of a text, each with a newline, are the text with its last newline
 abbrev Ends : List (List ℕ) → List ℕ → Type 0
@@ -132,7 +143,7 @@ lie b a text byte (p ∷ ps) t low short e =
            (ap (λ l. l ++ []) (sym next ∙ drop-all (suc (length p)) rest (omega arith)) ∙ sym (nil-from-length (ended b ps) (omega arith))))
        (cases-lt (length p) (length rest)))
 
-ended-joined : (b : ℕ) (ps : List (List ℕ)) → 0 < length ps → rejoined b ps ++ (b ∷ []) ≡ ended b ps
+pub ended-joined : (b : ℕ) (ps : List (List ℕ)) → 0 < length ps → rejoined b ps ++ (b ∷ []) ≡ ended b ps
 ended-joined b [] h = absurd (omega arith)
 ended-joined b (p ∷ []) h = refl
 ended-joined b (p ∷ q ∷ ps) h = append-assoc p (b ∷ rejoined b (q ∷ ps)) (b ∷ []) ∙ ap (λ l. p ++ (b ∷ l)) (ended-joined b (q ∷ ps) (omega arith))

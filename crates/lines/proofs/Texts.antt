@@ -2,9 +2,9 @@
 use mathlib.Core.Path.{_≡_, refl, sym, ap, subst, _∙_}
 use mathlib.Core.Logic.{_⊎_, inl, inr, ⊎-elim}
 use mathlib.Core.List.{List, [], _∷_}
-use Prim.Native.Nat.{ℕ, zero, suc, _≤_}
+use Prim.Native.Nat.{ℕ, zero, suc, _<_, _≤_}
 use native.Mathlib.Omega.{arith}
-use lib.ListN.{length}
+use lib.ListN.{length, length-append}
 use Rattle.std.specs.Finite.{nth, All}
 use Rattle.std.specs.Pieces.{rejoined}
 use Rattle.std.specs.declared.option.Option.the-variants.{Some, None}
@@ -15,11 +15,14 @@ use Rattle.lines.specs.declared.types.Call.{Call}
 use Rattle.lines.specs.declared.types.Call.the-variants as call
 use Rattle.lines.specs.declared.types.Entry.{Entry}
 use Rattle.lines.specs.declared.types.Entry.the-variants as entry
+use Rattle.lines.specs.declared.types.Letter.{Letter}
+use Rattle.lines.specs.declared.types.Letter.the-variants as letter
 use Rattle.lines.specs.declared.types.Word.{Word}
+use Rattle.lines.specs.declared.types.Word.the-variants as word
 use Rattle.lines.specs.declared.types.Line.{Line}
 use Rattle.lines.specs.declared.types.Stage.{Stage}
 use Rattle.lines.specs.declared.types.LineFault.{LineFault}
-use Rattle.lines.specs.Entries.{wordText, wordOf, letterOf, operands, values, ShortValues, CallFits, Fits, joined, lineText, Says}
+use Rattle.lines.specs.Entries.{wordText, letterText, wordOf, letterOf, operands, values, ShortValues, CallFits, Fits, joined, Says}
 use Rattle.lines.specs.Faults.{Kind, kinds, operandKinds, least, Counted, Placed, Good, Trouble, unknown, misplaced, miscounted, bad, Leads, Wrong, First, reported, Refused}
 use Rattle.lines.specs.Steps.{lineParts, lineWord, Valued}
 use Rattle.lines.proofs.Solid.{Solid, solid-word, solid-values, solid-short, all-without, joined-without}
@@ -33,8 +36,29 @@ solid-fields : (e : Entry) (fs : List (List ℕ)) → Fits e → Values e fs →
 solid-fields e fs u (inl h) = (solid-word (wordOf e), rw h (solid-values e u))
 solid-fields e fs u (inr h) = (solid-word (wordOf e), solid-short e fs u h)
 
-pub line-without : (e : Entry) → Fits e → Without 10 (lineText e)
-line-without e u = joined-without (wordText (wordOf e) ∷ values e) (solid-fields e (values e) u (inl refl))
+-- a line that says something holds no newline, and is not empty
+letter-some : (l : Letter) → 0 < length (letterText l)
+letter-some letter.Open = omega arith
+letter-some letter.Read = omega arith
+letter-some letter.Write = omega arith
+letter-some letter.Close = omega arith
+letter-some letter.Push = omega arith
+letter-some letter.Jolt = omega arith
+letter-some letter.Again = omega arith
+letter-some letter.Drop = omega arith
+
+word-some : (w : Word) → 0 < length (wordText w)
+word-some word.Rig = omega arith
+word-some word.Set = omega arith
+word-some (word.Call l) = letter-some l
+
+joined-some : (w : Word) (fs : List (List ℕ)) → 0 < length (joined w fs)
+joined-some w [] = word-some w
+joined-some w (f ∷ fs) = omega (arith, word-some w, length-append (wordText w) (9 ∷ rejoined 9 (f ∷ fs)))
+
+pub says-line : (bytes : List ℕ) (e : Entry) → Says bytes e → Without 10 bytes × (0 < length bytes)
+says-line bytes e (u, inl h) = rw h (joined-without (wordText (wordOf e) ∷ values e) (solid-fields e (values e) u (inl refl)), joined-some (wordOf e) (values e))
+says-line bytes e (u, inr (fs, s, h)) = rw h (joined-without (wordText (wordOf e) ∷ fs) (solid-fields e fs u (inr s)), joined-some (wordOf e) fs)
 
 -- a line that says something, split at its tabs
 pub says-fields : (bytes : List ℕ) (e : Entry) → Says bytes e → (fs : List (List ℕ)) × (split 9 bytes ≡ wordText (wordOf e) ∷ fs) × Values e fs

@@ -10,6 +10,7 @@ mod words;
 pub use faults::LineFromField;
 pub use next::next_entry;
 pub use render::BoardNameDisplay;
+pub use render::EntryDisplay;
 pub use render::HeadCallDisplay;
 pub use render::PolicyNameDisplay;
 pub use render::RigLineDisplay;

@@ -73,3 +73,15 @@ pub impl fmt::Display for HeadCall as HeadCallDisplay {
         }
     }
 }
+
+pub impl fmt::Display for Entry as EntryDisplay {
+    ghost shown = { λ e. Some (lineText e) };
+
+    fn fmt<W: fmt::Write>(&self, f: &mut fmt::Formatter<W>) -> fmt::Result {
+        match *self {
+            Entry::Rig(rig) => write!(f, "{rig}"),
+            Entry::Set(setting) => write!(f, "{setting}"),
+            Entry::Call(call) => write!(f, "{call}"),
+        }
+    }
+}

@@ -1,2 +1,4 @@
 pub mod Onward
 pub mod Once
+pub mod Rendered
+pub mod Whole

@@ -1,3 +1,5 @@
 pub mod Texts
 pub mod Holdings
+pub mod Reports
+pub mod Laws
 pub mod Steps

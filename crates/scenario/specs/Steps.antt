@@ -26,6 +26,7 @@ use Rattle.scenario.specs.declared.types.ReadError.the-variants as error
 use Rattle.scenario.specs.declared.types.Scenario.{Scenario}
 use Rattle.scenario.specs.Texts.{LinesRead, Start}
 use Rattle.scenario.specs.Holdings.{inOrder}
+use Rattle.scenario.specs.Laws.{ending}
 
 -- a scenario by its lists
 pub record Held : Type 0 where
@@ -69,3 +70,9 @@ abbrev pub Ends : List Piece → List Entry → Result (Unit {0}) ReadError → 
 Ends lines es (Ok _) = LinesRead Start lines es None
 Ends lines es (Err (error.Fault f)) = LinesRead Start lines es (Some f)
 Ends lines es (Err error.NoMemory) = LinesRead Start (take (length es) lines) es None
+
+-- how the reading ended is added to what was written
+abbrev pub EndWritten : List Entry → Result (Unit {0}) ReadError → List ℕ → List ℕ → Type 0
+EndWritten es (Ok _) before after = after ≡ before ++ (ending es None ++ (10 ∷ []))
+EndWritten es (Err (error.Fault f)) before after = after ≡ before ++ (ending es (Some f) ++ (10 ∷ []))
+EndWritten es (Err error.NoMemory) before after = ⊥
