@@ -43,9 +43,9 @@ join-split b [] = refl
 join-split b (x ∷ xs) =
     let some = split-some b xs in
     ⊎-elim
-      (λ (e : eqb x b ≡ true). ap (rejoined b) (cond-true (eqb x b) ([] ∷ split b xs) (onto x (split b xs)) e) ∙ join-empty b (split b xs) some ∙ ap (λ l. b ∷ l) (join-split b xs) ∙ ap (λ y. y ∷ xs) (sym (eqb-true x b e)))
-      (λ (e : eqb x b ≡ false). ap (rejoined b) (cond-false (eqb x b) ([] ∷ split b xs) (onto x (split b xs)) e) ∙ join-onto b x (split b xs) some ∙ ap (λ l. x ∷ l) (join-split b xs))
-      (cases-bool (eqb x b))
+    (λ (e : eqb x b ≡ true). ap (rejoined b) (cond-true (eqb x b) ([] ∷ split b xs) (onto x (split b xs)) e) ∙ join-empty b (split b xs) some ∙ ap (λ l. b ∷ l) (join-split b xs) ∙ ap (λ y. y ∷ xs) (sym (eqb-true x b e)))
+    (λ (e : eqb x b ≡ false). ap (rejoined b) (cond-false (eqb x b) ([] ∷ split b xs) (onto x (split b xs)) e) ∙ join-onto b x (split b xs) some ∙ ap (λ l. x ∷ l) (join-split b xs))
+    (cases-bool (eqb x b))
 
 onto-without : (b x : ℕ) (ps : List (List ℕ)) → (x ≡ b → ⊥) → All (Without b) ps → All (Without b) (onto x ps)
 onto-without b x [] h a = ((h, tt), tt)
@@ -132,16 +132,17 @@ lie b a text byte [] t low short e = tt
 lie b a text byte (p ∷ ps) t low short e =
     let rest : List ℕ = drop (byte - a) text in
     let sizes : length rest + length t ≡ length p + suc (length (ended b ps)) = sym (length-append rest t) ∙ ap length e ∙ length-append p (b ∷ ended b ps) in
-    let next : drop (suc (length p)) rest ≡ drop (suc (byte + length p) - a) text = drop-drop (suc (length p)) (byte - a) text ∙ ap (λ n. drop n text) (let q : (byte - a) + suc (length p) ≡ suc (byte + length p) - a = omega arith in q) in
-    (sym (take-append-le (length p) rest t (omega arith)) ∙ ap (take (length p)) e ∙ take-at p (b ∷ ended b ps) (length p) refl,
-     ⊎-elim
-       (λ (h : length p < length rest).
-         lie b a text (suc (byte + length p)) ps t (omega arith) short
-           (ap (λ l. l ++ t) (sym next) ∙ sym (drop-append-le (suc (length p)) rest t (omega arith)) ∙ ap (drop (suc (length p))) e ∙ after-part p b (ended b ps)))
-       (λ (h : length rest ≤ length p).
-         lie b a text (suc (byte + length p)) ps [] (omega arith) (omega arith)
-           (ap (λ l. l ++ []) (sym next ∙ drop-all (suc (length p)) rest (omega arith)) ∙ sym (nil-from-length (ended b ps) (omega arith))))
-       (cases-lt (length p) (length rest)))
+    let next : drop (suc (length p)) rest ≡ drop (suc (byte + length p) - a) text = drop-drop (suc (length p)) (byte - a) text ∙ ap (λ n. drop n text) (let q : (byte - a) + suc (length p) ≡ suc (byte + length p) - a = omega arith in q) in (
+      sym (take-append-le (length p) rest t (omega arith)) ∙ ap (take (length p)) e ∙ take-at p (b ∷ ended b ps) (length p) refl,
+      ⊎-elim
+          (λ (h : length p < length rest).
+          lie b a text (suc (byte + length p)) ps t (omega arith) short
+          (ap (λ l. l ++ t) (sym next) ∙ sym (drop-append-le (suc (length p)) rest t (omega arith)) ∙ ap (drop (suc (length p))) e ∙ after-part p b (ended b ps)))
+          (λ (h : length rest ≤ length p).
+          lie b a text (suc (byte + length p)) ps [] (omega arith) (omega arith)
+          (ap (λ l. l ++ []) (sym next ∙ drop-all (suc (length p)) rest (omega arith)) ∙ sym (nil-from-length (ended b ps) (omega arith))))
+          (cases-lt (length p) (length rest)),
+    )
 
 pub ended-joined : (b : ℕ) (ps : List (List ℕ)) → 0 < length ps → rejoined b ps ++ (b ∷ []) ≡ ended b ps
 ended-joined b [] h = absurd (omega arith)
@@ -190,9 +191,9 @@ lined text =
       apart = lines-all (Without 10) textStart (linesOf text) (lines-without text);
       numbered = lines-in-row textStart (linesOf text);
       placed = lines-lie 0 text textStart (linesOf text) (⊎-elim
-        (λ (e : ended 10 (linesOf text) ≡ text). lie 10 0 text 0 (linesOf text) [] (omega arith) (omega arith) (append-nil (drop 0 text) ∙ all text ∙ sym e))
-        (λ (e : ended 10 (linesOf text) ≡ text ++ (10 ∷ [])). lie 10 0 text 0 (linesOf text) (10 ∷ []) (omega arith) (omega arith) (ap (λ l. l ++ (10 ∷ [])) (all text) ∙ sym e))
-        (lines-joined text));
+          (λ (e : ended 10 (linesOf text) ≡ text). lie 10 0 text 0 (linesOf text) [] (omega arith) (omega arith) (append-nil (drop 0 text) ∙ all text ∙ sym e))
+          (λ (e : ended 10 (linesOf text) ≡ text ++ (10 ∷ [])). lie 10 0 text 0 (linesOf text) (10 ∷ []) (omega arith) (omega arith) (ap (λ l. l ++ (10 ∷ [])) (all text) ∙ sym e))
+          (lines-joined text));
     }
   where
     all : (xs : List ℕ) → drop 0 xs ≡ xs
@@ -206,7 +207,7 @@ fielded-at (p, bytes) =
       apart = fields-all (Without 9) p (split 9 bytes) (split-without 9 bytes);
       sameLine = fields-same-line (p .line) p (split 9 bytes) refl;
       placed = fields-lie (p .byte) bytes p (split 9 bytes)
-        (lie 9 (p .byte) bytes (p .byte) (split 9 bytes) (9 ∷ []) (omega arith) (omega arith)
+          (lie 9 (p .byte) bytes (p .byte) (split 9 bytes) (9 ∷ []) (omega arith) (omega arith)
           (ap (λ (l : List ℕ). l ++ (9 ∷ [])) (all (p .byte) bytes ∙ sym (join-split 9 bytes)) ∙ ended-joined 9 (split 9 bytes) (split-some 9 bytes)));
     }
   where

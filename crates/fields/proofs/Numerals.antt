@@ -64,8 +64,8 @@ pub lead-of : (bs : List ℕ) (n : ℕ) → Number bs n → getD bs 0 0 ≡ 48 �
 lead-of bs n (e, small) z =
     let l : n < 2 ^ 64 = omega arith in
     ⊎-elim (λ (h : n ≡ 0). ap length (e ∙ ap decimal h ∙ decimal-digit 0 (omega arith)))
-      (λ (h : n ≡ 0 → ⊥). let p : 0 < n = omega arith in absurd (omega (arith, first-decimal n p l, ap (λ l. getD l 0 0) e)))
-      (cases-eq n 0)
+    (λ (h : n ≡ 0 → ⊥). let p : 0 < n = omega arith in absurd (omega (arith, first-decimal n p l, ap (λ l. getD l 0 0) e)))
+    (cases-eq n 0)
 
 -- the answers of `number_of`, way by way
 pub none-empty : (bs : List ℕ) → length bs ≡ 0 → Reads (Number bs) None
@@ -105,17 +105,17 @@ pub minus-said : (bs ds : List ℕ) (r : Option ℕ) → bs ≡ 45 ∷ ds → Re
 minus-said bs ds None e h = λ z s. let p = neg-of bs ds z e s in h (suc (p .0)) (p .2, omega arith)
 minus-said bs ds (Some n) e (s, l) =
     cond-both (eqb n 0) None (cond (leb n 2147483648) (Some (negsuc (n - 1))) None) (Reads (Amount bs))
-      (λ t z a. let p = neg-of bs ds z e a in omega (arith, eqb-true n 0 t, same n (suc (p .0)) ds s (p .2) l (omega arith)))
-      (λ t. cond-both (leb n 2147483648) (Some (negsuc (n - 1))) None (Reads (Amount bs))
-        (λ u. let k : suc (n - 1) ≡ n = omega (arith, eqb-false n 0 t) in (e ∙ ap (λ l. 45 ∷ l) (s ∙ ap decimal (sym k)), omega (arith, leb-true n 2147483648 u)))
-        (λ u z a. let p = neg-of bs ds z e a in omega (arith, leb-false n 2147483648 u, same n (suc (p .0)) ds s (p .2) l (omega arith))))
+    (λ t z a. let p = neg-of bs ds z e a in omega (arith, eqb-true n 0 t, same n (suc (p .0)) ds s (p .2) l (omega arith)))
+    (λ t. cond-both (leb n 2147483648) (Some (negsuc (n - 1))) None (Reads (Amount bs))
+    (λ u. let k : suc (n - 1) ≡ n = omega (arith, eqb-false n 0 t) in (e ∙ ap (λ l. 45 ∷ l) (s ∙ ap decimal (sym k)), omega (arith, leb-true n 2147483648 u)))
+    (λ u z a. let p = neg-of bs ds z e a in omega (arith, leb-false n 2147483648 u, same n (suc (p .0)) ds s (p .2) l (omega arith))))
 
 pub plain-said : (bs ds : List ℕ) (r : Option ℕ) → (ds ≡ bs) × (getD bs 0 0 ≡ 45 → ⊥) → Reads (Number ds) r → Reads (Amount bs) (positive r)
 plain-said bs ds None (d, e) h = λ z s. let p = pos-of bs z e s in h (p .0) (d ∙ p .2, omega arith)
 plain-said bs ds (Some n) (d, e) (s, l) =
     cond-both (leb n 2147483647) (Some (pos n)) None (Reads (Amount bs))
-      (λ u. (sym d ∙ s, leb-true n 2147483647 u))
-      (λ u z a. let p = pos-of bs z e a in omega (arith, leb-false n 2147483647 u, same n (p .0) ds s (d ∙ p .2) l (omega arith)))
+    (λ u. (sym d ∙ s, leb-true n 2147483647 u))
+    (λ u z a. let p = pos-of bs z e a in omega (arith, leb-false n 2147483647 u, same n (p .0) ds s (d ∙ p .2) l (omega arith)))
 
 -- what `field_of` has cut
 pub after-minus : (bs : List ℕ) → 1 ≤ length bs → getD bs 0 0 ≡ 45 → bs ≡ 45 ∷ take (length bs - 1) (drop 1 bs)

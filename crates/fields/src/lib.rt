@@ -7,5 +7,4 @@ mod types;
 pub use parts::Part;
 pub use parts::Place;
 pub use parts::Reader;
-pub use types::Field;
 pub use types::FieldFault;

@@ -6,7 +6,7 @@ use crate::types::Field;
 use crate::types::FieldFault;
 
 // How a field begins.
-pub fn field_of(bytes: &[u8]) -> Field
+fn field_of(bytes: &[u8]) -> Field
     ensures { λ r. ⌜ Begins r (now (bytes .entry)) ⌝ }
 {
     match bytes {

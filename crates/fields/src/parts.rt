@@ -15,6 +15,14 @@ pub struct Part<'a> {
     pub bytes: &'a [u8],
 }
 
+// A line, and what comes after it, with the byte where that begins.
+#[derive(Clone, Copy)]
+pub struct Cut<'a> {
+    pub first: Part<'a>,
+    pub at: usize,
+    pub rest: &'a [u8],
+}
+
 // A text that is handed out line after line, and each line field after field.
 // The ghost fields say that no place can wrap.
 #[derive(Drop)]

@@ -82,7 +82,13 @@ bad-at (κ ∷ ks) (f ∷ fs) fault (inl (e, off)) =
 bad-at (κ ∷ ks) (f ∷ fs) fault (inr (good, rest)) =
     let b = bad-at ks fs fault rest in
     record {
-      k = suc (b .k); kind = b .kind; f = b .f; kind-at = b .kind-at; field-at = b .field-at; is-bad = b .is-bad; is = b .is;
+      k = suc (b .k);
+      kind = b .kind;
+      f = b .f;
+      kind-at = b .kind-at;
+      field-at = b .field-at;
+      is-bad = b .is-bad;
+      is = b .is;
       before = earlier (b .k) (b .before);
     }
   where
@@ -116,6 +122,7 @@ module _ (s : Stage) (f : Piece) (gs : List Piece) (w : Word) (leads : f .1 ≡ 
       where
         off : (n : ℕ) → suc (length gs) ≡ suc n → Counted w n → ⊥
         off n e c = let P : ℕ → Type 0 = λ x. Counted w x in let d : n ≡ length gs = omega arith in h (subst P d c)
+
         least : (u : Trouble) → Wrong s (f ∷ gs) u → 2 ≤ order u
         least unknown x = absurd (x w leads)
         least misplaced (v, l, off) = absurd (is-here v l off)
@@ -135,7 +142,7 @@ module _ (s : Stage) (f : Piece) (gs : List Piece) (w : Word) (leads : f .1 ≡ 
           least miscounted (v, l, off) = absurd (is-counted v l off)
           least (bad l j h) (v, m, r, t, x) =
               ⊎-elim (λ (low : j < k). let P : Word → Type 0 = λ y. nth (kinds y) j ≡ Some l in absurd (before j low l h (subst P (one-word v m) r) t x))
-                (λ (high : k ≤ j). omega arith) (cases-lt j k)
+              (λ (high : k ≤ j). omega arith) (cases-lt j k)
 
 -- a line that has its shape has the right number of fields
 
@@ -170,7 +177,8 @@ module _ (s : Stage) (l : Piece) (f : Piece) (gs : List Piece) (w : Word) (field
 pub line-bad : (s : Stage) (at : Piece) (l : Line) (fault : FieldFault) → ((f : Piece) × (fieldsAt at ≡ f ∷ lineParts l) × (f .1 ≡ wordText (lineWord l))) → Placed s (lineWord l) → FirstBad (kinds (lineWord l)) (lineParts l) fault → Troubled s at (inLine.Field fault)
 line-bad s at l fault (f, fields, leads) here bads =
     let b = bad-at (kinds (lineWord l)) (lineParts l) fault bads in
-    let P : List Piece → Type 0 = λ x. First s x (bad (b .kind) (b .k) (b .f)) in
-    (bad (b .kind) (b .k) (b .f),
-     subst P (sym fields) (bad-here s f (lineParts l) (lineWord l) leads here (shape-counted l) (b .k) (b .kind) (b .f) (b .kind-at) (b .field-at) (b .is-bad) (b .before)),
-     ap (λ x. inLine.Field x) (b .is))
+    let P : List Piece → Type 0 = λ x. First s x (bad (b .kind) (b .k) (b .f)) in (
+      bad (b .kind) (b .k) (b .f),
+      subst P (sym fields) (bad-here s f (lineParts l) (lineWord l) leads here (shape-counted l) (b .k) (b .kind) (b .f) (b .kind-at) (b .field-at) (b .is-bad) (b .before)),
+      ap (λ x. inLine.Field x) (b .is),
+    )

@@ -152,8 +152,8 @@ said-or-wrong s (p, bytes) e t said here wrong =
         let K : Word → Type 0 = λ x. nth (kinds x) j ≡ Some k in
         let N : List (List ℕ) → Type 0 = λ x. nth x j ≡ Some (f .1) in
         off (good-at (kinds (wordOf e)) fs j k (f .1) (values-good e fs (said .0) v)
-          (subst K (one-word s (p, wordText (wordOf e)) gs (wordOf e) refl w l) r)
-          (subst N (bytes-of-fields (afterField p (wordText (wordOf e))) fs) (nth-bytes gs j f q)))
+        (subst K (one-word s (p, wordText (wordOf e)) gs (wordOf e) refl w l) r)
+        (subst N (bytes-of-fields (afterField p (wordText (wordOf e))) fs) (nth-bytes gs j f q)))
 
 -- what a line is read as
 

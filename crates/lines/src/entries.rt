@@ -15,7 +15,12 @@ use crate::words::policy_of;
 use fields::FieldFault;
 use fields::Part;
 
-fn rig_entry(heads: Part, cells: Part, board: Part, policy: Option<Part>) -> Result<Entry, FieldFault>
+fn rig_entry(
+    heads: Part,
+    cells: Part,
+    board: Part,
+    policy: Option<Part>,
+) -> Result<Entry, FieldFault>
     ensures { λ r. ⌜ FieldsRead word.Rig (piece (heads .entry) ∷ piece (cells .entry) ∷ piece (board .entry) ∷ listed (policy .entry)) r ⌝ }
 {
     let heads = heads.number()?;

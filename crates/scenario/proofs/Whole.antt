@@ -102,8 +102,8 @@ text-lines text es ls some say (inr e) = ap linesOf e ∙ lines-rejoined ls (ome
 lines-text : (text : List ℕ) → 0 < length text → (text ≡ ended 10 (linesOf text)) ⊎ (text ≡ rejoined 10 (linesOf text))
 lines-text text some =
     ⊎-elim (λ (e : ended 10 (linesOf text) ≡ text). inl (sym e))
-      (λ (e : ended 10 (linesOf text) ≡ text ++ (10 ∷ [])). inr (cut (linesOf text) e))
-      (lines-joined text)
+    (λ (e : ended 10 (linesOf text) ≡ text ++ (10 ∷ [])). inr (cut (linesOf text) e))
+    (lines-joined text)
   where
     cut : (ls : List (List ℕ)) → ended 10 ls ≡ text ++ (10 ∷ []) → text ≡ rejoined 10 ls
     cut [] e = absurd (omega (arith, ap length e, length-append text (10 ∷ [])))

@@ -37,7 +37,14 @@ fn line_report(fault: LineFault) -> Report
         LineFault::UnknownWord(place) => report(21, place, Layer::Line),
         LineFault::Miscounted(place) => report(22, place, Layer::Line),
         LineFault::Misplaced(place) => report(24, place, Layer::Line),
-        LineFault::TooLong => report(25, Place { line: 0, byte: 65_536 }, Layer::Line),
+        LineFault::TooLong => report(
+            25,
+            Place {
+                line: 0,
+                byte: 65_536,
+            },
+            Layer::Line,
+        ),
     }
 }
 

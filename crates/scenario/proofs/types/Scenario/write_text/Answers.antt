@@ -11,6 +11,6 @@ use Rattle.scenario.proofs.types.Scenario.write_text.Needs as need
 pub returns : need.returns
 returns c =
     three-written (rigLine (c .args .self .now .rig)) (map entry.Set (vec-items (c .args .self .now .settings))) (map entry.Call (vec-items (c .args .self .now .calls))) _ _ _ _
-      (c .in-Continue-write-rig .ensures tt)
-      (c .in-Continue-write-lines .ensures tt ∙ ap (λ l. string-bytes (c .write-rig .last .out) ++ scenarioText (map entry.Set l)) (c .deref .ensures .value))
-      (c .in-Continue-write-lines-2 .ensures tt ∙ ap (λ l. string-bytes (c .write-lines .last .out) ++ scenarioText (map entry.Call l)) (c .deref-2 .ensures .value))
+    (c .in-Continue-write-rig .ensures tt)
+    (c .in-Continue-write-lines .ensures tt ∙ ap (λ l. string-bytes (c .write-rig .last .out) ++ scenarioText (map entry.Set l)) (c .deref .ensures .value))
+    (c .in-Continue-write-lines-2 .ensures tt ∙ ap (λ l. string-bytes (c .write-lines .last .out) ++ scenarioText (map entry.Call l)) (c .deref-2 .ensures .value))
