@@ -19,14 +19,14 @@ use Rattle.lines.specs.declared.types.LineFault.{LineFault}
 use Rattle.lines.specs.declared.types.LineFault.the-variants as inLine
 use Rattle.lines.specs.declared.types.CallParts.{CallParts}
 use Rattle.lines.specs.declared.types.CallParts.the-variants as calls
-use Rattle.lines.specs.declared.types.Letter.{Letter}
-use Rattle.lines.specs.declared.types.Letter.the-variants as letter
-use Rattle.lines.specs.declared.types.Word.{Word}
-use Rattle.lines.specs.declared.types.Word.the-variants as word
+use Rattle.entries.specs.declared.types.Letter.{Letter}
+use Rattle.entries.specs.declared.types.Letter.the-variants as letter
+use Rattle.entries.specs.declared.types.Word.{Word}
+use Rattle.entries.specs.declared.types.Word.the-variants as word
 use Rattle.lines.specs.declared.types.Line.{Line}
 use Rattle.lines.specs.declared.types.Line.the-variants as line
 use Rattle.lines.specs.declared.types.Stage.{Stage}
-use Rattle.lines.specs.Entries.{wordText, letterText}
+use Rattle.entries.specs.Rendering.{wordText, letterText}
 use Rattle.lines.specs.Faults.{Kind, kinds, operandKinds, least, Counted, Placed, Good, Trouble, unknown, misplaced, miscounted, bad, Leads, Wrong, order, First, fieldFault, reported}
 use Rattle.lines.specs.Steps.{lineParts, lineWord, operandParts, partsLetter, FirstBad}
 

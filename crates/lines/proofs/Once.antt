@@ -19,24 +19,24 @@ use Rattle.std.specs.declared.result.Result.the-variants.{Ok, Err}
 use Rattle.fields.specs.Numbers.{Number, after}
 use Rattle.fields.specs.Parts.{Piece, split, fieldsAt}
 use Rattle.fields.proofs.Numerals.{own, digits-of, some-of, no-minus}
-use Rattle.lines.specs.declared.types.BoardName.{BoardName}
-use Rattle.lines.specs.declared.types.BoardName.the-variants as board
-use Rattle.lines.specs.declared.types.PolicyName.{PolicyName}
-use Rattle.lines.specs.declared.types.PolicyName.the-variants as policy
-use Rattle.lines.specs.declared.types.RigLine.{RigLine}
-use Rattle.lines.specs.declared.types.Setting.{Setting}
-use Rattle.lines.specs.declared.types.HeadCall.{HeadCall}
-use Rattle.lines.specs.declared.types.Call.{Call}
-use Rattle.lines.specs.declared.types.Call.the-variants as call
-use Rattle.lines.specs.declared.types.Entry.{Entry}
-use Rattle.lines.specs.declared.types.Entry.the-variants as entry
-use Rattle.lines.specs.declared.types.Letter.{Letter}
-use Rattle.lines.specs.declared.types.Letter.the-variants as letter
-use Rattle.lines.specs.declared.types.Word.{Word}
-use Rattle.lines.specs.declared.types.Word.the-variants as word
+use Rattle.entries.specs.declared.types.BoardName.{BoardName}
+use Rattle.entries.specs.declared.types.BoardName.the-variants as board
+use Rattle.entries.specs.declared.types.PolicyName.{PolicyName}
+use Rattle.entries.specs.declared.types.PolicyName.the-variants as policy
+use Rattle.entries.specs.declared.types.RigLine.{RigLine}
+use Rattle.entries.specs.declared.types.Setting.{Setting}
+use Rattle.entries.specs.declared.types.HeadCall.{HeadCall}
+use Rattle.entries.specs.declared.types.Call.{Call}
+use Rattle.entries.specs.declared.types.Call.the-variants as call
+use Rattle.entries.specs.declared.types.Entry.{Entry}
+use Rattle.entries.specs.declared.types.Entry.the-variants as entry
+use Rattle.entries.specs.declared.types.Letter.{Letter}
+use Rattle.entries.specs.declared.types.Letter.the-variants as letter
+use Rattle.entries.specs.declared.types.Word.{Word}
+use Rattle.entries.specs.declared.types.Word.the-variants as word
 use Rattle.lines.specs.declared.types.Stage.{Stage}
 use Rattle.lines.specs.declared.types.LineFault.{LineFault}
-use Rattle.lines.specs.Entries.{Says, wordOf, letterOf, boardText, policyText, wordText, operands, values, CallFits, Fits}
+use Rattle.entries.specs.Rendering.{Says, wordOf, letterOf, boardText, policyText, wordText, operands, values, CallFits, Fits}
 use Rattle.lines.specs.Faults.{Kind, Trouble, unknown, misplaced, miscounted, bad, Leads, Wrong, kinds, order, First, reported, LineRead, LineOnce, Refused}
 use Rattle.lines.proofs.Firsts.{some-eq, same-word}
 use Rattle.lines.proofs.Texts.{Values, says-fields, said-or-wrong}

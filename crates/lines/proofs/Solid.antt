@@ -11,23 +11,24 @@ use Rattle.std.specs.Finite.{All}
 use Rattle.std.specs.Pieces.{rejoined}
 use Rattle.std.specs.Written.{decimal, signed}
 use Rattle.std.specs.shelf.Text.{allDigits}
+use Rattle.std.specs.Text.{asciiDigit}
 use Rattle.std.proofs.shelf.Decimals.{digits-decimal}
 use Rattle.std.proofs.shelf.Tests.{and-parts, and-from, leb-true, le-leb}
 use Rattle.fields.specs.Parts.{Without}
 use Rattle.fields.proofs.Numerals.{own}
-use Rattle.lines.specs.declared.types.BoardName.{BoardName}
-use Rattle.lines.specs.declared.types.BoardName.the-variants as board
-use Rattle.lines.specs.declared.types.PolicyName.{PolicyName}
-use Rattle.lines.specs.declared.types.PolicyName.the-variants as policy
-use Rattle.lines.specs.declared.types.Call.{Call}
-use Rattle.lines.specs.declared.types.Call.the-variants as call
-use Rattle.lines.specs.declared.types.Letter.{Letter}
-use Rattle.lines.specs.declared.types.Letter.the-variants as letter
-use Rattle.lines.specs.declared.types.Word.{Word}
-use Rattle.lines.specs.declared.types.Word.the-variants as word
-use Rattle.lines.specs.declared.types.Entry.{Entry}
-use Rattle.lines.specs.declared.types.Entry.the-variants as entry
-use Rattle.lines.specs.Entries.{boardText, policyText, letterText, wordText, wordOf, operands, values, ShortValues, CallFits, Fits}
+use Rattle.entries.specs.declared.types.BoardName.{BoardName}
+use Rattle.entries.specs.declared.types.BoardName.the-variants as board
+use Rattle.entries.specs.declared.types.PolicyName.{PolicyName}
+use Rattle.entries.specs.declared.types.PolicyName.the-variants as policy
+use Rattle.entries.specs.declared.types.Call.{Call}
+use Rattle.entries.specs.declared.types.Call.the-variants as call
+use Rattle.entries.specs.declared.types.Letter.{Letter}
+use Rattle.entries.specs.declared.types.Letter.the-variants as letter
+use Rattle.entries.specs.declared.types.Word.{Word}
+use Rattle.entries.specs.declared.types.Word.the-variants as word
+use Rattle.entries.specs.declared.types.Entry.{Entry}
+use Rattle.entries.specs.declared.types.Entry.the-variants as entry
+use Rattle.entries.specs.Rendering.{boardText, policyText, letterText, wordText, wordOf, operands, values, ShortValues, CallFits, Fits}
 
 abbrev pub solid : List ℕ → Bool
 solid [] = true
@@ -38,7 +39,7 @@ Solid bs = solid bs ≡ true
 
 pub solid-without : (b : ℕ) (bs : List ℕ) → b < 45 → Solid bs → Without b bs
 solid-without b [] low h = tt
-solid-without b (x ∷ xs) low h = let p = and-parts _ _ h in (λ e. omega (arith, leb-true 45 x (p .0)), solid-without b xs low (p .1))
+solid-without b (x ∷ xs) low h = let p = and-parts (leb 45 x) (solid xs) h in (λ e. omega (arith, leb-true 45 x (p .0)), solid-without b xs low (p .1))
 
 pub all-without : (b : ℕ) (fs : List (List ℕ)) → b < 45 → All Solid fs → All (Without b) fs
 all-without b [] low h = tt
@@ -47,8 +48,8 @@ all-without b (f ∷ fs) low (h, r) = (solid-without b f low h, all-without b fs
 solid-digits : (ds : List ℕ) → allDigits ds ≡ true → Solid ds
 solid-digits [] h = refl
 solid-digits (d ∷ ds) h =
-    let p = and-parts _ _ h in
-    let q = and-parts _ _ (p .0) in
+    let p = and-parts (asciiDigit d) (allDigits ds) h in
+    let q = and-parts (leb 48 d) (leb d 57) (p .0) in
     let l : 45 ≤ d = omega (arith, leb-true 48 d (q .0)) in
     and-from (leb 45 d) (solid ds) (le-leb 45 d l) (solid-digits ds (p .1))
 

@@ -11,18 +11,18 @@ use Rattle.std.specs.declared.option.Option.the-variants.{Some, None}
 use Rattle.fields.specs.declared.parts.Place.{Place}
 use Rattle.fields.specs.Parts.{Piece, split, bytesOf, afterField, fieldsFrom, fieldsAt, Without}
 use Rattle.fields.proofs.Joins.{split-joined, join-split, bytes-of-fields}
-use Rattle.lines.specs.declared.types.Call.{Call}
-use Rattle.lines.specs.declared.types.Call.the-variants as call
-use Rattle.lines.specs.declared.types.Entry.{Entry}
-use Rattle.lines.specs.declared.types.Entry.the-variants as entry
-use Rattle.lines.specs.declared.types.Letter.{Letter}
-use Rattle.lines.specs.declared.types.Letter.the-variants as letter
-use Rattle.lines.specs.declared.types.Word.{Word}
-use Rattle.lines.specs.declared.types.Word.the-variants as word
+use Rattle.entries.specs.declared.types.Call.{Call}
+use Rattle.entries.specs.declared.types.Call.the-variants as call
+use Rattle.entries.specs.declared.types.Entry.{Entry}
+use Rattle.entries.specs.declared.types.Entry.the-variants as entry
+use Rattle.entries.specs.declared.types.Letter.{Letter}
+use Rattle.entries.specs.declared.types.Letter.the-variants as letter
+use Rattle.entries.specs.declared.types.Word.{Word}
+use Rattle.entries.specs.declared.types.Word.the-variants as word
 use Rattle.lines.specs.declared.types.Line.{Line}
 use Rattle.lines.specs.declared.types.Stage.{Stage}
 use Rattle.lines.specs.declared.types.LineFault.{LineFault}
-use Rattle.lines.specs.Entries.{wordText, letterText, wordOf, letterOf, operands, values, ShortValues, CallFits, Fits, joined, Says}
+use Rattle.entries.specs.Rendering.{wordText, letterText, wordOf, letterOf, operands, values, ShortValues, CallFits, Fits, joined, Says}
 use Rattle.lines.specs.Faults.{Kind, kinds, operandKinds, least, Counted, Placed, Good, Trouble, unknown, misplaced, miscounted, bad, Leads, Wrong, First, reported, Refused}
 use Rattle.lines.specs.Steps.{lineParts, lineWord, Valued}
 use Rattle.lines.proofs.Solid.{Solid, solid-word, solid-values, solid-short, all-without, joined-without}

@@ -14,21 +14,21 @@ use Rattle.fields.specs.declared.types.FieldFault.{FieldFault}
 use Rattle.fields.specs.declared.types.FieldFault.the-variants as inField
 use Rattle.fields.specs.Numbers.{Number, Amount}
 use Rattle.fields.specs.Parts.{Piece, fieldsAt}
-use Rattle.lines.specs.declared.types.BoardName.{BoardName}
-use Rattle.lines.specs.declared.types.PolicyName.{PolicyName}
-use Rattle.lines.specs.declared.types.RigLine.{RigLine}
-use Rattle.lines.specs.declared.types.Letter.{Letter}
-use Rattle.lines.specs.declared.types.Letter.the-variants as letter
-use Rattle.lines.specs.declared.types.Word.{Word}
-use Rattle.lines.specs.declared.types.Word.the-variants as word
-use Rattle.lines.specs.declared.types.Entry.{Entry}
-use Rattle.lines.specs.declared.types.Entry.the-variants as entry
+use Rattle.entries.specs.declared.types.BoardName.{BoardName}
+use Rattle.entries.specs.declared.types.PolicyName.{PolicyName}
+use Rattle.entries.specs.declared.types.RigLine.{RigLine}
+use Rattle.entries.specs.declared.types.Letter.{Letter}
+use Rattle.entries.specs.declared.types.Letter.the-variants as letter
+use Rattle.entries.specs.declared.types.Word.{Word}
+use Rattle.entries.specs.declared.types.Word.the-variants as word
+use Rattle.entries.specs.declared.types.Entry.{Entry}
+use Rattle.entries.specs.declared.types.Entry.the-variants as entry
 use Rattle.lines.specs.declared.types.LineEntry.{LineEntry}
 use Rattle.lines.specs.declared.types.Stage.{Stage}
 use Rattle.lines.specs.declared.types.Stage.the-variants as stage
 use Rattle.lines.specs.declared.types.LineFault.{LineFault}
 use Rattle.lines.specs.declared.types.LineFault.the-variants as inLine
-use Rattle.lines.specs.Entries.{wordText, boardText, policyText, wordOf, Says}
+use Rattle.entries.specs.Rendering.{wordText, boardText, policyText, wordOf, Says}
 
 -- what a field after the first has to be
 pub data Kind : Type 0 where

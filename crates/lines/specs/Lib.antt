@@ -1,3 +1,2 @@
-pub mod Entries
 pub mod Faults
 pub mod Steps

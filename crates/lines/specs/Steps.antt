@@ -11,21 +11,21 @@ use Rattle.std.specs.declared.result.Result.the-variants.{Ok, Err}
 use Rattle.fields.specs.declared.parts.Part.{Part}
 use Rattle.fields.specs.declared.types.FieldFault.{FieldFault}
 use Rattle.fields.specs.Parts.{Piece, piece, bytesOf, fieldsAt}
-use Rattle.lines.specs.declared.types.PolicyName.{PolicyName}
-use Rattle.lines.specs.declared.types.PolicyName.the-variants as policies
-use Rattle.lines.specs.declared.types.Call.{Call}
+use Rattle.entries.specs.declared.types.PolicyName.{PolicyName}
+use Rattle.entries.specs.declared.types.PolicyName.the-variants as policies
+use Rattle.entries.specs.declared.types.Call.{Call}
 use Rattle.lines.specs.declared.types.CallParts.{CallParts}
 use Rattle.lines.specs.declared.types.CallParts.the-variants as calls
-use Rattle.lines.specs.declared.types.Entry.{Entry}
-use Rattle.lines.specs.declared.types.Letter.{Letter}
-use Rattle.lines.specs.declared.types.Letter.the-variants as letter
-use Rattle.lines.specs.declared.types.Word.{Word}
-use Rattle.lines.specs.declared.types.Word.the-variants as word
+use Rattle.entries.specs.declared.types.Entry.{Entry}
+use Rattle.entries.specs.declared.types.Letter.{Letter}
+use Rattle.entries.specs.declared.types.Letter.the-variants as letter
+use Rattle.entries.specs.declared.types.Word.{Word}
+use Rattle.entries.specs.declared.types.Word.the-variants as word
 use Rattle.lines.specs.declared.types.Line.{Line}
 use Rattle.lines.specs.declared.types.Line.the-variants as line
 use Rattle.lines.specs.declared.types.Stage.{Stage}
 use Rattle.lines.specs.declared.types.LineFault.{LineFault}
-use Rattle.lines.specs.Entries.{operands, CallFits, Fits, values, ShortValues, letterOf, wordOf, wordText, policyText}
+use Rattle.entries.specs.Rendering.{operands, CallFits, Fits, values, ShortValues, letterOf, wordOf, wordText, policyText}
 use Rattle.lines.specs.Faults.{Kind, number, amount, board, policy, kinds, operandKinds, Counted, Placed, Good, fieldFault, First, Trouble, reported, Leads}
 
 -- The parts that a line holds, in their order, and its word.

@@ -1,31 +1,13 @@
 // The lines of a scenario: what each says, or what is wrong with it.
-mod entries;
 mod faults;
 mod next;
-mod render;
 mod shapes;
 mod types;
+mod values;
 mod words;
 
 pub use faults::LineFromField;
 pub use next::next_entry;
-pub use render::BoardNameDisplay;
-pub use render::EntryDisplay;
-pub use render::HeadCallDisplay;
-pub use render::PolicyNameDisplay;
-pub use render::RigLineDisplay;
-pub use render::SettingDisplay;
-pub use types::BoardName;
-pub use types::Call;
-pub use types::CallParts;
-pub use types::Entry;
-pub use types::HeadCall;
-pub use types::Letter;
-pub use types::Line;
 pub use types::LineEntry;
 pub use types::LineFault;
-pub use types::PolicyName;
-pub use types::RigLine;
-pub use types::Setting;
 pub use types::Stage;
-pub use types::Word;

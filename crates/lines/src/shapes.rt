@@ -1,12 +1,12 @@
 ghost use mathlib.Core.Path.{_≡_};
 ghost use Rattle.fields.specs.Parts.{fieldsLeft, linesLeft};
-ghost use Rattle.lines.specs.declared.types.Word.the-variants as word;
-ghost use Rattle.lines.specs.declared.types.Letter.the-variants as letter;
+ghost use Rattle.entries.specs.declared.types.Word.the-variants as word;
+ghost use Rattle.entries.specs.declared.types.Letter.the-variants as letter;
 ghost use Rattle.lines.specs.Steps.{Shaped, ShapedCall};
 use crate::types::CallParts;
-use crate::types::Letter;
 use crate::types::Line;
-use crate::types::Word;
+use entries::Letter;
+use entries::Word;
 use fields::Part;
 use fields::Reader;
 

@@ -2,12 +2,12 @@ ghost use mathlib.Core.Path.{_≡_};
 ghost use Rattle.std.specs.Orderings.{Decides};
 ghost use Rattle.fields.specs.Numbers.{Reads, FieldRead};
 ghost use Rattle.fields.specs.declared.types.FieldFault.the-variants.{UnknownWord};
-ghost use Rattle.lines.specs.Entries.{wordText, letterText, boardText, policyText};
+ghost use Rattle.entries.specs.Rendering.{wordText, letterText, boardText, policyText};
 ghost use Rattle.lines.specs.Steps.{PolicyRead};
-use crate::types::BoardName;
-use crate::types::Letter;
-use crate::types::PolicyName;
-use crate::types::Word;
+use entries::BoardName;
+use entries::Letter;
+use entries::PolicyName;
+use entries::Word;
 use fields::FieldFault;
 use fields::Part;
 

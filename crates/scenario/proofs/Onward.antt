@@ -11,17 +11,17 @@ use Rattle.std.specs.declared.option.Option.the-variants.{Some, None}
 use Rattle.std.specs.declared.result.Result.{Result}
 use Rattle.std.specs.declared.result.Result.the-variants.{Ok, Err}
 use Rattle.fields.specs.Parts.{Piece, textStart}
-use Rattle.lines.specs.declared.types.RigLine.{RigLine}
-use Rattle.lines.specs.declared.types.Setting.{Setting}
-use Rattle.lines.specs.declared.types.HeadCall.{HeadCall}
-use Rattle.lines.specs.declared.types.Entry.{Entry}
-use Rattle.lines.specs.declared.types.Entry.the-variants as entry
+use Rattle.entries.specs.declared.types.RigLine.{RigLine}
+use Rattle.entries.specs.declared.types.Setting.{Setting}
+use Rattle.entries.specs.declared.types.HeadCall.{HeadCall}
+use Rattle.entries.specs.declared.types.Entry.{Entry}
+use Rattle.entries.specs.declared.types.Entry.the-variants as entry
 use Rattle.lines.specs.declared.types.Stage.{Stage}
 use Rattle.lines.specs.declared.types.Stage.the-variants as stage
-use Rattle.lines.specs.declared.types.Word.{Word}
-use Rattle.lines.specs.declared.types.Word.the-variants as word
+use Rattle.entries.specs.declared.types.Word.{Word}
+use Rattle.entries.specs.declared.types.Word.the-variants as word
 use Rattle.lines.specs.declared.types.LineFault.the-variants as inLine
-use Rattle.lines.specs.Entries.{wordOf}
+use Rattle.entries.specs.Rendering.{wordOf}
 use Rattle.lines.specs.Faults.{Placed, stageAfter}
 use Rattle.scenario.specs.declared.types.RigFault.{RigFault}
 use Rattle.scenario.specs.declared.types.RigFault.the-variants as inRig

@@ -4,8 +4,8 @@ use mathlib.Core.List.{List, [], _∷_, _++_, map, append-assoc, append-nil}
 use Prim.Native.Nat.{ℕ, _+_, _<_, _≤_}
 use lib.ListN.{length, getD, drop}
 use Rattle.std.proofs.shelf.Lists.{at-drop-more, drop-all, map-append}
-use Rattle.lines.specs.declared.types.Entry.{Entry}
-use Rattle.lines.specs.Entries.{lineText}
+use Rattle.entries.specs.declared.types.Entry.{Entry}
+use Rattle.entries.specs.Rendering.{lineText}
 use Rattle.scenario.specs.Laws.{scenarioText}
 
 pub text-append : (es ds : List Entry) → scenarioText (es ++ ds) ≡ scenarioText es ++ scenarioText ds

@@ -18,13 +18,13 @@ use Rattle.std.specs.declared.result.Result.the-variants.{Ok, Err}
 use Rattle.fields.specs.declared.parts.Place.{Place}
 use Rattle.fields.specs.Parts.{Piece, linesOf, onto, afterLine, linesFrom, textStart, ended, Without}
 use Rattle.fields.proofs.Joins.{lines-joined, lines-ended, lines-rejoined, ended-joined}
-use Rattle.lines.specs.declared.types.RigLine.{RigLine}
-use Rattle.lines.specs.declared.types.Setting.{Setting}
-use Rattle.lines.specs.declared.types.HeadCall.{HeadCall}
-use Rattle.lines.specs.declared.types.Entry.{Entry}
-use Rattle.lines.specs.declared.types.Entry.the-variants as entry
+use Rattle.entries.specs.declared.types.RigLine.{RigLine}
+use Rattle.entries.specs.declared.types.Setting.{Setting}
+use Rattle.entries.specs.declared.types.HeadCall.{HeadCall}
+use Rattle.entries.specs.declared.types.Entry.{Entry}
+use Rattle.entries.specs.declared.types.Entry.the-variants as entry
 use Rattle.lines.specs.declared.types.Stage.{Stage}
-use Rattle.lines.specs.Entries.{lineText, Says}
+use Rattle.entries.specs.Rendering.{lineText, Says}
 use Rattle.lines.specs.Faults.{stageAfter}
 use Rattle.lines.proofs.Texts.{says-line}
 use Rattle.scenario.specs.declared.types.RigFault.{RigFault}

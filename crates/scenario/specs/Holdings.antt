@@ -8,11 +8,11 @@ use Rattle.std.specs.declared.option.Option.{Option}
 use Rattle.std.specs.declared.option.Option.the-variants.{Some, None}
 use Rattle.std.specs.declared.result.Result.{Result}
 use Rattle.std.specs.declared.result.Result.the-variants.{Ok, Err}
-use Rattle.lines.specs.declared.types.RigLine.{RigLine}
-use Rattle.lines.specs.declared.types.Setting.{Setting}
-use Rattle.lines.specs.declared.types.HeadCall.{HeadCall}
-use Rattle.lines.specs.declared.types.Entry.{Entry}
-use Rattle.lines.specs.declared.types.Entry.the-variants as entry
+use Rattle.entries.specs.declared.types.RigLine.{RigLine}
+use Rattle.entries.specs.declared.types.Setting.{Setting}
+use Rattle.entries.specs.declared.types.HeadCall.{HeadCall}
+use Rattle.entries.specs.declared.types.Entry.{Entry}
+use Rattle.entries.specs.declared.types.Entry.the-variants as entry
 use Rattle.lines.specs.declared.types.Stage.{Stage}
 use Rattle.lines.specs.declared.types.Stage.the-variants as stage
 use Rattle.scenario.specs.declared.types.RigFault.{RigFault}

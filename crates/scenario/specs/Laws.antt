@@ -10,9 +10,9 @@ use Rattle.std.specs.Pieces.{rejoined}
 use Rattle.std.specs.declared.option.Option.{Option}
 use Rattle.std.specs.declared.option.Option.the-variants.{Some, None}
 use Rattle.fields.specs.Parts.{ended}
-use Rattle.lines.specs.declared.types.Entry.{Entry}
+use Rattle.entries.specs.declared.types.Entry.{Entry}
 use Rattle.lines.specs.declared.types.Stage.{Stage}
-use Rattle.lines.specs.Entries.{wordOf, lineText, Fits, Says}
+use Rattle.entries.specs.Rendering.{wordOf, lineText, Fits, Says}
 use Rattle.lines.specs.Faults.{Placed, stageAfter}
 use Rattle.scenario.specs.declared.types.RigFault.{RigFault}
 use Rattle.scenario.specs.Texts.{Allowed, Start, Says-text}

@@ -1,8 +1,8 @@
+use entries::HeadCall;
+use entries::RigLine;
+use entries::Setting;
 use fields::Place;
-use lines::HeadCall;
 use lines::LineFault;
-use lines::RigLine;
-use lines::Setting;
 
 // What is wrong with a scenario: a line, or what a line asks of the rig, and where that line begins.
 #[derive(Clone, Copy)]

@@ -2,7 +2,7 @@ use mathlib.Core.Path.{_∙_, ap}
 use mathlib.Core.List.{map, _++_}
 use Rattle.std.specs.Of.String.{string-bytes}
 use Rattle.std.specs.Of.Vec.{vec-items}
-use Rattle.lines.specs.declared.types.Entry.the-variants as entry
+use Rattle.entries.specs.declared.types.Entry.the-variants as entry
 use Rattle.scenario.specs.Holdings.{rigLine}
 use Rattle.scenario.specs.Laws.{scenarioText}
 use Rattle.scenario.proofs.Rendered.{three-written}

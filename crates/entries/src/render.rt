@@ -1,7 +1,7 @@
 // The text of what a line says.
 ghost use Rattle.std.specs.declared.option.Option.the-variants.{Some};
-ghost use Rattle.lines.specs.declared.types.Entry.the-variants as entry;
-ghost use Rattle.lines.specs.Entries.{boardText, policyText, lineText};
+ghost use Rattle.entries.specs.declared.types.Entry.the-variants as entry;
+ghost use Rattle.entries.specs.Rendering.{boardText, policyText, lineText};
 use crate::types::BoardName;
 use crate::types::Call;
 use crate::types::Entry;

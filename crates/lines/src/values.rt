@@ -1,17 +1,17 @@
 ghost use mathlib.Core.List.{[], _∷_};
 ghost use Rattle.fields.specs.Parts.{piece};
-ghost use Rattle.lines.specs.declared.types.Word.the-variants as word;
-ghost use Rattle.lines.specs.declared.types.Letter.the-variants as letter;
+ghost use Rattle.entries.specs.declared.types.Word.the-variants as word;
+ghost use Rattle.entries.specs.declared.types.Letter.the-variants as letter;
 ghost use Rattle.lines.specs.Steps.{listed, operandParts, partsLetter, lineParts, lineWord, FieldsRead, OperandsRead};
-use crate::types::Call;
 use crate::types::CallParts;
-use crate::types::Entry;
-use crate::types::HeadCall;
 use crate::types::Line;
-use crate::types::RigLine;
-use crate::types::Setting;
 use crate::words::board_of;
 use crate::words::policy_of;
+use entries::Call;
+use entries::Entry;
+use entries::HeadCall;
+use entries::RigLine;
+use entries::Setting;
 use fields::FieldFault;
 use fields::Part;
 

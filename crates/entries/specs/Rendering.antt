@@ -8,21 +8,21 @@ use lib.IntN.{ℤ}
 use lib.Signed.{mag}
 use Rattle.std.specs.Written.{decimal, signed}
 use Rattle.std.specs.Pieces.{rejoined}
-use Rattle.lines.specs.declared.types.BoardName.{BoardName}
-use Rattle.lines.specs.declared.types.BoardName.the-variants as board
-use Rattle.lines.specs.declared.types.PolicyName.{PolicyName}
-use Rattle.lines.specs.declared.types.PolicyName.the-variants as policy
-use Rattle.lines.specs.declared.types.RigLine.{RigLine}
-use Rattle.lines.specs.declared.types.Setting.{Setting}
-use Rattle.lines.specs.declared.types.Call.{Call}
-use Rattle.lines.specs.declared.types.Call.the-variants as call
-use Rattle.lines.specs.declared.types.HeadCall.{HeadCall}
-use Rattle.lines.specs.declared.types.Entry.{Entry}
-use Rattle.lines.specs.declared.types.Entry.the-variants as entry
-use Rattle.lines.specs.declared.types.Letter.{Letter}
-use Rattle.lines.specs.declared.types.Letter.the-variants as letter
-use Rattle.lines.specs.declared.types.Word.{Word}
-use Rattle.lines.specs.declared.types.Word.the-variants as word
+use Rattle.entries.specs.declared.types.BoardName.{BoardName}
+use Rattle.entries.specs.declared.types.BoardName.the-variants as board
+use Rattle.entries.specs.declared.types.PolicyName.{PolicyName}
+use Rattle.entries.specs.declared.types.PolicyName.the-variants as policy
+use Rattle.entries.specs.declared.types.RigLine.{RigLine}
+use Rattle.entries.specs.declared.types.Setting.{Setting}
+use Rattle.entries.specs.declared.types.Call.{Call}
+use Rattle.entries.specs.declared.types.Call.the-variants as call
+use Rattle.entries.specs.declared.types.HeadCall.{HeadCall}
+use Rattle.entries.specs.declared.types.Entry.{Entry}
+use Rattle.entries.specs.declared.types.Entry.the-variants as entry
+use Rattle.entries.specs.declared.types.Letter.{Letter}
+use Rattle.entries.specs.declared.types.Letter.the-variants as letter
+use Rattle.entries.specs.declared.types.Word.{Word}
+use Rattle.entries.specs.declared.types.Word.the-variants as word
 
 -- The words of the format.
 
