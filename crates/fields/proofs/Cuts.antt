@@ -9,7 +9,7 @@ use lib.Dec.{eqb}
 use lib.ListN.{length, take, drop}
 use Rattle.std.proofs.shelf.Lists.{take-rest, take-all, length-take, drop-all}
 use Rattle.std.proofs.shelf.Tests.{cond-both, cond-true, cond-false, cases-bool, cases-lt}
-use Rattle.fields.specs.declared.parts.Place.{Place}
+use Rattle.faults.specs.declared.types.Place.{Place}
 use Rattle.fields.specs.Parts.{split, onto, upTo, linesOf, linesFrom, linesAt, fieldsFrom, fieldsAt, Piece}
 
 pub upTo-within : (b : ℕ) (xs : List ℕ) → upTo b xs ≤ length xs

@@ -13,7 +13,7 @@ use Rattle.std.proofs.shelf.Lists.{nil-from-length, length-drop, drop-all, drop
 use Rattle.std.proofs.shelf.Tests.{cond-true, cond-false, cond-both, cases-bool, cases-lt, eqb-true, eqb-false, eq-eqb, ne-eqb}
 use Rattle.std.specs.declared.option.Option.{Option}
 use Rattle.std.specs.declared.option.Option.the-variants.{Some, None}
-use Rattle.fields.specs.declared.parts.Place.{Place}
+use Rattle.faults.specs.declared.types.Place.{Place}
 use Rattle.fields.specs.declared.parts.Part.{Part}
 use Rattle.fields.specs.Parts.{split, onto, linesOf, afterLine, linesFrom, linesAt, afterField, fieldsFrom, fieldsAt, fieldsOf, bytesOf, Piece, piece, ended, Without, inRow, LiesIn, Lined, FieldsOfLine, Fielded, textStart}
 

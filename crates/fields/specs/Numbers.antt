@@ -15,7 +15,7 @@ use Rattle.std.specs.declared.result.Result.{Result}
 use Rattle.std.specs.declared.result.Result.the-variants.{Ok, Err}
 use Rattle.fields.specs.declared.types.Field.{Field}
 use Rattle.fields.specs.declared.types.Field.the-variants.{Minus, Plain}
-use Rattle.fields.specs.declared.types.FieldFault.{FieldFault}
+use Rattle.faults.specs.declared.types.FieldFault.{FieldFault}
 
 -- `decimal n` is the numeral of n: digits, without plus sign or leading zeros. A number is at most 4,294,967,295.
 abbrev pub Number : List ℕ → ℕ → Type 0

@@ -5,6 +5,4 @@ mod reader;
 mod types;
 
 pub use parts::Part;
-pub use parts::Place;
 pub use parts::Reader;
-pub use types::FieldFault;

@@ -1,9 +1,9 @@
 ghost use mathlib.Core.Path.{_≡_};
 ghost use Rattle.fields.specs.Numbers.{Number, Amount, Valued, Reads, FieldRead, Begins, negative, positive};
-ghost use Rattle.fields.specs.declared.types.FieldFault.the-variants.{BadNumber};
+ghost use Rattle.faults.specs.declared.types.FieldFault.the-variants.{BadNumber};
 use crate::parts::Part;
 use crate::types::Field;
-use crate::types::FieldFault;
+use faults::FieldFault;
 
 // How a field begins.
 fn field_of(bytes: &[u8]) -> Field

@@ -1,12 +1,6 @@
 ghost use Prim.Native.Nat.{_+_, _<_, _^_};
 ghost use lib.ListN.{length};
-
-// Where a part of the text begins: its line, counted from 1, and its byte, counted from 0 over the whole text.
-#[derive(Clone, Copy)]
-pub struct Place {
-    pub line: usize,
-    pub byte: usize,
-}
+use faults::Place;
 
 // A part of the text: where it begins, and its bytes, which are borrowed from the text.
 #[derive(Clone, Copy)]

@@ -5,8 +5,8 @@ ghost use lib.ListN.{length};
 ghost use Rattle.fields.specs.Parts.{piece, upTo, Hands, linesAt, linesLeft, fieldsAt, whileOpen, fieldsLeft, fieldsOf, textStart, Lined, FieldsOfLine, Fielded};
 use crate::parts::Cut;
 use crate::parts::Part;
-use crate::parts::Place;
 use crate::parts::Reader;
+use faults::Place;
 
 // How many bytes come before the first byte b, or all of them.
 fn before(s: &[u8], b: u8) -> usize

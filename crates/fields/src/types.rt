@@ -1,5 +1,3 @@
-use crate::parts::Place;
-
 // A field by how it begins. Each case borrows its bytes from the text.
 #[derive(Clone, Copy)]
 pub enum Field<'a> {
@@ -7,11 +5,4 @@ pub enum Field<'a> {
     Minus(&'a [u8]),
     // begins in any other way, or is empty: all of its bytes
     Plain(&'a [u8]),
-}
-
-// What is wrong with a field after the first of its line, and where the field begins.
-#[derive(Clone, Copy)]
-pub enum FieldFault {
-    UnknownWord(Place),
-    BadNumber(Place),
 }

@@ -11,12 +11,12 @@ use Rattle.std.specs.Finite.{nth}
 use Rattle.std.proofs.shelf.Tests.{cases-lt}
 use Rattle.std.specs.declared.option.Option.{Option}
 use Rattle.std.specs.declared.option.Option.the-variants.{Some, None}
-use Rattle.fields.specs.declared.parts.Place.{Place}
+use Rattle.faults.specs.declared.types.Place.{Place}
 use Rattle.fields.specs.declared.parts.Part.{Part}
-use Rattle.fields.specs.declared.types.FieldFault.{FieldFault}
+use Rattle.faults.specs.declared.types.FieldFault.{FieldFault}
 use Rattle.fields.specs.Parts.{Piece, fieldsAt}
-use Rattle.lines.specs.declared.types.LineFault.{LineFault}
-use Rattle.lines.specs.declared.types.LineFault.the-variants as inLine
+use Rattle.faults.specs.declared.types.LineFault.{LineFault}
+use Rattle.faults.specs.declared.types.LineFault.the-variants as inLine
 use Rattle.lines.specs.declared.types.CallParts.{CallParts}
 use Rattle.lines.specs.declared.types.CallParts.the-variants as calls
 use Rattle.entries.specs.declared.types.Letter.{Letter}

@@ -35,7 +35,7 @@ use Rattle.entries.specs.declared.types.Letter.the-variants as letter
 use Rattle.entries.specs.declared.types.Word.{Word}
 use Rattle.entries.specs.declared.types.Word.the-variants as word
 use Rattle.lines.specs.declared.types.Stage.{Stage}
-use Rattle.lines.specs.declared.types.LineFault.{LineFault}
+use Rattle.faults.specs.declared.types.LineFault.{LineFault}
 use Rattle.entries.specs.Rendering.{Says, wordOf, letterOf, boardText, policyText, wordText, operands, values, CallFits, Fits}
 use Rattle.lines.specs.Faults.{Kind, Trouble, unknown, misplaced, miscounted, bad, Leads, Wrong, kinds, order, First, reported, LineRead, LineOnce, Refused}
 use Rattle.lines.proofs.Firsts.{some-eq, same-word}

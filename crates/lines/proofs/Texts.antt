@@ -8,7 +8,7 @@ use lib.ListN.{length, length-append}
 use Rattle.std.specs.Finite.{nth, All}
 use Rattle.std.specs.Pieces.{rejoined}
 use Rattle.std.specs.declared.option.Option.the-variants.{Some, None}
-use Rattle.fields.specs.declared.parts.Place.{Place}
+use Rattle.faults.specs.declared.types.Place.{Place}
 use Rattle.fields.specs.Parts.{Piece, split, bytesOf, afterField, fieldsFrom, fieldsAt, Without}
 use Rattle.fields.proofs.Joins.{split-joined, join-split, bytes-of-fields}
 use Rattle.entries.specs.declared.types.Call.{Call}
@@ -21,7 +21,7 @@ use Rattle.entries.specs.declared.types.Word.{Word}
 use Rattle.entries.specs.declared.types.Word.the-variants as word
 use Rattle.lines.specs.declared.types.Line.{Line}
 use Rattle.lines.specs.declared.types.Stage.{Stage}
-use Rattle.lines.specs.declared.types.LineFault.{LineFault}
+use Rattle.faults.specs.declared.types.LineFault.{LineFault}
 use Rattle.entries.specs.Rendering.{wordText, letterText, wordOf, letterOf, operands, values, ShortValues, CallFits, Fits, joined, Says}
 use Rattle.lines.specs.Faults.{Kind, kinds, operandKinds, least, Counted, Placed, Good, Trouble, unknown, misplaced, miscounted, bad, Leads, Wrong, First, reported, Refused}
 use Rattle.lines.specs.Steps.{lineParts, lineWord, Valued}

@@ -9,9 +9,9 @@ use Rattle.std.specs.declared.option.Option.{Option}
 use Rattle.std.specs.declared.option.Option.the-variants.{Some, None}
 use Rattle.std.specs.declared.result.Result.{Result}
 use Rattle.std.specs.declared.result.Result.the-variants.{Ok, Err}
-use Rattle.fields.specs.declared.parts.Place.{Place}
-use Rattle.fields.specs.declared.types.FieldFault.{FieldFault}
-use Rattle.fields.specs.declared.types.FieldFault.the-variants as inField
+use Rattle.faults.specs.declared.types.Place.{Place}
+use Rattle.faults.specs.declared.types.FieldFault.{FieldFault}
+use Rattle.faults.specs.declared.types.FieldFault.the-variants as inField
 use Rattle.fields.specs.Numbers.{Number, Amount}
 use Rattle.fields.specs.Parts.{Piece, fieldsAt}
 use Rattle.entries.specs.declared.types.BoardName.{BoardName}
@@ -26,8 +26,8 @@ use Rattle.entries.specs.declared.types.Entry.the-variants as entry
 use Rattle.lines.specs.declared.types.LineEntry.{LineEntry}
 use Rattle.lines.specs.declared.types.Stage.{Stage}
 use Rattle.lines.specs.declared.types.Stage.the-variants as stage
-use Rattle.lines.specs.declared.types.LineFault.{LineFault}
-use Rattle.lines.specs.declared.types.LineFault.the-variants as inLine
+use Rattle.faults.specs.declared.types.LineFault.{LineFault}
+use Rattle.faults.specs.declared.types.LineFault.the-variants as inLine
 use Rattle.entries.specs.Rendering.{wordText, boardText, policyText, wordOf, Says}
 
 -- what a field after the first has to be

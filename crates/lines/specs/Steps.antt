@@ -9,7 +9,7 @@ use Rattle.std.specs.declared.option.Option.the-variants.{Some, None}
 use Rattle.std.specs.declared.result.Result.{Result}
 use Rattle.std.specs.declared.result.Result.the-variants.{Ok, Err}
 use Rattle.fields.specs.declared.parts.Part.{Part}
-use Rattle.fields.specs.declared.types.FieldFault.{FieldFault}
+use Rattle.faults.specs.declared.types.FieldFault.{FieldFault}
 use Rattle.fields.specs.Parts.{Piece, piece, bytesOf, fieldsAt}
 use Rattle.entries.specs.declared.types.PolicyName.{PolicyName}
 use Rattle.entries.specs.declared.types.PolicyName.the-variants as policies
@@ -24,7 +24,7 @@ use Rattle.entries.specs.declared.types.Word.the-variants as word
 use Rattle.lines.specs.declared.types.Line.{Line}
 use Rattle.lines.specs.declared.types.Line.the-variants as line
 use Rattle.lines.specs.declared.types.Stage.{Stage}
-use Rattle.lines.specs.declared.types.LineFault.{LineFault}
+use Rattle.faults.specs.declared.types.LineFault.{LineFault}
 use Rattle.entries.specs.Rendering.{operands, CallFits, Fits, values, ShortValues, letterOf, wordOf, wordText, policyText}
 use Rattle.lines.specs.Faults.{Kind, number, amount, board, policy, kinds, operandKinds, Counted, Placed, Good, fieldFault, First, Trouble, reported, Leads}
 

@@ -1,13 +1,10 @@
 // The lines of a scenario: what each says, or what is wrong with it.
-mod faults;
 mod next;
 mod shapes;
 mod types;
 mod values;
 mod words;
 
-pub use faults::LineFromField;
 pub use next::next_entry;
 pub use types::LineEntry;
-pub use types::LineFault;
 pub use types::Stage;

@@ -3,16 +3,16 @@ ghost use Rattle.std.specs.Orderings.{Decides};
 ghost use Rattle.fields.specs.Parts.{piece, fieldsAt, fieldsLeft, linesLeft};
 ghost use Rattle.lines.specs.Faults.{Placed, stageAfter, LineRead, NextRead, LineOnce};
 ghost use Rattle.lines.specs.Steps.{LineShaped};
-use crate::faults::LineFromField;
 use crate::shapes::shape;
 use crate::types::Line;
 use crate::types::LineEntry;
-use crate::types::LineFault;
 use crate::types::Stage;
 use crate::values::entry_of;
 use crate::words::word_of;
 use entries::Entry;
 use entries::Word;
+use faults::LineFault;
+use faults::LineFromField;
 use fields::Part;
 use fields::Reader;
 

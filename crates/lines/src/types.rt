@@ -1,7 +1,7 @@
 use entries::Entry;
-use fields::FieldFault;
+use faults::LineFault;
+use faults::Place;
 use fields::Part;
-use fields::Place;
 
 // What stood on the lines before: nothing; the rig, of so many cells, and settings; calls too.
 #[derive(Clone, Copy)]
@@ -41,17 +41,6 @@ pub enum Line<'a> {
         head: Part<'a>,
         call: CallParts<'a>,
     },
-}
-
-// What is wrong with a line: a field after the first, or the line itself, and where that begins.
-// A text that is too long has no lines; its fault is reported with those of lines.
-#[derive(Clone, Copy)]
-pub enum LineFault {
-    Field(FieldFault),
-    UnknownWord(Place),
-    Misplaced(Place),
-    Miscounted(Place),
-    TooLong,
 }
 
 // What a line was read as, and where it begins.

@@ -12,7 +12,7 @@ use entries::Entry;
 use entries::HeadCall;
 use entries::RigLine;
 use entries::Setting;
-use fields::FieldFault;
+use faults::FieldFault;
 use fields::Part;
 
 fn rig_entry(

@@ -1,14 +1,14 @@
 ghost use mathlib.Core.Path.{_≡_};
 ghost use Rattle.std.specs.Orderings.{Decides};
 ghost use Rattle.fields.specs.Numbers.{Reads, FieldRead};
-ghost use Rattle.fields.specs.declared.types.FieldFault.the-variants.{UnknownWord};
+ghost use Rattle.faults.specs.declared.types.FieldFault.the-variants.{UnknownWord};
 ghost use Rattle.entries.specs.Rendering.{wordText, letterText, boardText, policyText};
 ghost use Rattle.lines.specs.Steps.{PolicyRead};
 use entries::BoardName;
 use entries::Letter;
 use entries::PolicyName;
 use entries::Word;
-use fields::FieldFault;
+use faults::FieldFault;
 use fields::Part;
 
 fn same(bytes: &[u8], text: &[u8]) -> bool

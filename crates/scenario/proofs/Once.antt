@@ -14,11 +14,11 @@ use Rattle.entries.specs.declared.types.Setting.{Setting}
 use Rattle.entries.specs.declared.types.Entry.{Entry}
 use Rattle.entries.specs.declared.types.Entry.the-variants as entry
 use Rattle.lines.specs.declared.types.Stage.{Stage}
-use Rattle.lines.specs.declared.types.LineFault.{LineFault}
+use Rattle.faults.specs.declared.types.LineFault.{LineFault}
 use Rattle.lines.specs.Faults.{LineRead, stageAfter}
 use Rattle.lines.proofs.Once.{says-once, line-once}
-use Rattle.scenario.specs.declared.types.RigFault.{RigFault}
-use Rattle.scenario.specs.declared.types.RigFault.the-variants as inRig
+use Rattle.faults.specs.declared.types.RigFault.{RigFault}
+use Rattle.faults.specs.declared.types.RigFault.the-variants as inRig
 use Rattle.scenario.specs.Texts.{Allowed, RigRead, LinesRead, Start, linesOfText, Says-text, long, empty, lined, TextOnce}
 
 in-line : (f g : LineFault) → _≡_ {A = Result Entry LineFault} (Err f) (Err g) → inRig.Line f ≡ inRig.Line g

@@ -20,11 +20,11 @@ use Rattle.lines.specs.declared.types.Stage.{Stage}
 use Rattle.lines.specs.declared.types.Stage.the-variants as stage
 use Rattle.entries.specs.declared.types.Word.{Word}
 use Rattle.entries.specs.declared.types.Word.the-variants as word
-use Rattle.lines.specs.declared.types.LineFault.the-variants as inLine
+use Rattle.faults.specs.declared.types.LineFault.the-variants as inLine
 use Rattle.entries.specs.Rendering.{wordOf}
 use Rattle.lines.specs.Faults.{Placed, stageAfter}
-use Rattle.scenario.specs.declared.types.RigFault.{RigFault}
-use Rattle.scenario.specs.declared.types.RigFault.the-variants as inRig
+use Rattle.faults.specs.declared.types.RigFault.{RigFault}
+use Rattle.faults.specs.declared.types.RigFault.the-variants as inRig
 use Rattle.scenario.specs.declared.types.ReadError.{ReadError}
 use Rattle.scenario.specs.declared.types.ReadError.the-variants as error
 use Rattle.scenario.specs.Texts.{RigRead, LinesRead, Start, linesOfText, Says-text, long, empty, lined}

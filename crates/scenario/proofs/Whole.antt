@@ -15,7 +15,7 @@ use Rattle.std.specs.declared.option.Option.{Option}
 use Rattle.std.specs.declared.option.Option.the-variants.{Some, None}
 use Rattle.std.specs.declared.result.Result.{Result}
 use Rattle.std.specs.declared.result.Result.the-variants.{Ok, Err}
-use Rattle.fields.specs.declared.parts.Place.{Place}
+use Rattle.faults.specs.declared.types.Place.{Place}
 use Rattle.fields.specs.Parts.{Piece, linesOf, onto, afterLine, linesFrom, textStart, ended, Without}
 use Rattle.fields.proofs.Joins.{lines-joined, lines-ended, lines-rejoined, ended-joined}
 use Rattle.entries.specs.declared.types.RigLine.{RigLine}
@@ -27,7 +27,7 @@ use Rattle.lines.specs.declared.types.Stage.{Stage}
 use Rattle.entries.specs.Rendering.{lineText, Says}
 use Rattle.lines.specs.Faults.{stageAfter}
 use Rattle.lines.proofs.Texts.{says-line}
-use Rattle.scenario.specs.declared.types.RigFault.{RigFault}
+use Rattle.faults.specs.declared.types.RigFault.{RigFault}
 use Rattle.scenario.specs.declared.types.ReadError.{ReadError}
 use Rattle.scenario.specs.declared.types.ReadError.the-variants as error
 use Rattle.scenario.specs.Texts.{LinesRead, Start, Says-text, long, empty, lined}

@@ -14,9 +14,9 @@ use Rattle.entries.specs.declared.types.Entry.{Entry}
 use Rattle.lines.specs.declared.types.Stage.{Stage}
 use Rattle.entries.specs.Rendering.{wordOf, lineText, Fits, Says}
 use Rattle.lines.specs.Faults.{Placed, stageAfter}
-use Rattle.scenario.specs.declared.types.RigFault.{RigFault}
+use Rattle.faults.specs.declared.types.RigFault.{RigFault}
 use Rattle.scenario.specs.Texts.{Allowed, Start, Says-text}
-use Rattle.scenario.specs.Reports.{reportOf, reportText}
+use Rattle.faults.specs.Reports.{reportOf, reportText}
 
 -- the text of each entry, with a newline (byte 10) after it
 abbrev pub scenarioText : List Entry → List ℕ

@@ -17,10 +17,10 @@ use Rattle.entries.specs.declared.types.Entry.{Entry}
 use Rattle.entries.specs.declared.types.Entry.the-variants as entry
 use Rattle.lines.specs.declared.types.Stage.{Stage}
 use Rattle.lines.specs.declared.types.Stage.the-variants as stage
-use Rattle.lines.specs.declared.types.LineFault.the-variants as inLine
+use Rattle.faults.specs.declared.types.LineFault.the-variants as inLine
 use Rattle.lines.specs.Faults.{stageAfter}
-use Rattle.scenario.specs.declared.types.RigFault.{RigFault}
-use Rattle.scenario.specs.declared.types.RigFault.the-variants as inRig
+use Rattle.faults.specs.declared.types.RigFault.{RigFault}
+use Rattle.faults.specs.declared.types.RigFault.the-variants as inRig
 use Rattle.scenario.specs.declared.types.ReadError.{ReadError}
 use Rattle.scenario.specs.declared.types.ReadError.the-variants as error
 use Rattle.scenario.specs.declared.types.Scenario.{Scenario}

@@ -1,13 +1,13 @@
 // Faults as they are printed.
 ghost use mathlib.Core.Path.{_≡_};
 ghost use Rattle.std.specs.declared.option.Option.the-variants.{Some};
-ghost use Rattle.scenario.specs.Reports.{fieldReport, lineReport, reportOf, layerText, reportText};
+ghost use Rattle.faults.specs.Reports.{fieldReport, lineReport, reportOf, layerText, reportText};
+use crate::types::FieldFault;
 use crate::types::Layer;
+use crate::types::LineFault;
+use crate::types::Place;
 use crate::types::Report;
 use crate::types::RigFault;
-use fields::FieldFault;
-use fields::Place;
-use lines::LineFault;
 use std::fmt;
 
 fn report(number: u8, place: Place, layer: Layer) -> Report

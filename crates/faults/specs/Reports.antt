@@ -4,15 +4,15 @@ use Prim.Native.Nat.{ℕ}
 use lib.Chars.{codes}
 use Rattle.std.specs.Written.{decimal}
 use Rattle.std.specs.Pieces.{rejoined}
-use Rattle.fields.specs.declared.types.FieldFault.{FieldFault}
-use Rattle.fields.specs.declared.types.FieldFault.the-variants as inField
-use Rattle.lines.specs.declared.types.LineFault.{LineFault}
-use Rattle.lines.specs.declared.types.LineFault.the-variants as inLine
-use Rattle.scenario.specs.declared.types.RigFault.{RigFault}
-use Rattle.scenario.specs.declared.types.RigFault.the-variants as inRig
-use Rattle.scenario.specs.declared.types.Layer.{Layer}
-use Rattle.scenario.specs.declared.types.Layer.the-variants as layers
-use Rattle.scenario.specs.declared.types.Report.{Report}
+use Rattle.faults.specs.declared.types.FieldFault.{FieldFault}
+use Rattle.faults.specs.declared.types.FieldFault.the-variants as inField
+use Rattle.faults.specs.declared.types.LineFault.{LineFault}
+use Rattle.faults.specs.declared.types.LineFault.the-variants as inLine
+use Rattle.faults.specs.declared.types.RigFault.{RigFault}
+use Rattle.faults.specs.declared.types.RigFault.the-variants as inRig
+use Rattle.faults.specs.declared.types.Layer.{Layer}
+use Rattle.faults.specs.declared.types.Layer.the-variants as layers
+use Rattle.faults.specs.declared.types.Report.{Report}
 
 -- a bad field after the first of its line
 abbrev pub fieldReport : FieldFault → Report
