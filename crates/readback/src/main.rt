@@ -25,3 +25,6 @@ fn main(rt: LibcRuntime) {
         );
     }
 }
+
+#[cfg(test)]
+mod tests;
