@@ -2,96 +2,188 @@ use scenario::readback;
 use std::alloc::Global;
 use std::test::*;
 
-// That the text is told so.
+// A text, and what is told of it.
+#[derive(Clone, Copy)]
+struct Case<'a> {
+    text: &'a [u8],
+    told: &'a str,
+}
+
 fn told(heap: Global, text: &[u8], expected: &str) -> Result<(), Fail> {
     let out = readback(heap, text)?;
     check_eq(out.as_str(), expected).note(expected)
 }
 
-// The same of a text that comes after the line `rig`, 1, 1, `lines`, which has 14 bytes.
-fn told_after_rig(heap: Global, text: &[u8], expected: &str) -> Result<(), Fail> {
-    let mut whole = b"rig\t1\t1\tlines\n".to_vec(heap)?;
-    whole.extend_from_slice(text)?;
-    let out = readback(heap, &whole)?;
-    let mut lines = String::from_str(heap, "rig\t1\t1\tlines\tplain\n")?;
-    lines.push_str(expected)?;
-    check_eq(out.as_str(), lines.as_str()).note(expected)
+fn each_told(heap: Global, cases: &[Case]) -> Result<(), Fail> {
+    for case in cases {
+        told(heap, case.text, case.told)?;
+    }
+    Ok(())
 }
 
-#[test]
-fn texts_without_a_rig(rt: LibcRuntime) -> Result<(), Fail> {
-    let heap = rt.alloc();
-    told(heap, b"", "fault\t24\t1\t0\tline\n")?;
-    told(heap, b"\n", "fault\t21\t1\t0\tline\n")?;
-    told(heap, b"\t\t\t", "fault\t21\t1\t0\tline\n")?;
-    told(heap, b"o\t0\nrig\t1\t1\tlines\n", "fault\t24\t1\t0\tline\n")?;
-    told(heap, b"set\t1", "fault\t24\t1\t0\tline\n")?;
-    told(heap, b"Rig\t1\t1\tlines\n", "fault\t21\t1\t0\tline\n")
-}
+static TEXTS_WITHOUT_A_RIG: [Case; 6] = [
+    Case {
+        text: b"",
+        told: "fault\t24\t1\t0\tline\n",
+    },
+    Case {
+        text: b"\n",
+        told: "fault\t21\t1\t0\tline\n",
+    },
+    Case {
+        text: b"\t\t\t",
+        told: "fault\t21\t1\t0\tline\n",
+    },
+    Case {
+        text: b"o\t0\nrig\t1\t1\tlines\n",
+        told: "fault\t24\t1\t0\tline\n",
+    },
+    Case {
+        text: b"set\t1",
+        told: "fault\t24\t1\t0\tline\n",
+    },
+    Case {
+        text: b"Rig\t1\t1\tlines\n",
+        told: "fault\t21\t1\t0\tline\n",
+    },
+];
+
+static RIG_LINES: [Case; 10] = [
+    Case {
+        text: b"rig\t8\t1024\tstores\tcareful",
+        told: "rig\t8\t1024\tstores\tcareful\nwhole\t1\n",
+    },
+    Case {
+        text: b"rig\t1\t1\tlines\r\n",
+        told: "fault\t21\t1\t8\tfield\n",
+    },
+    Case {
+        text: b"rig\t1\t1\tlines\tbrave",
+        told: "fault\t21\t1\t14\tfield\n",
+    },
+    Case {
+        text: b"rig\tx\ty\tz",
+        told: "fault\t23\t1\t4\tfield\n",
+    },
+    Case {
+        text: b"rig\t1\t1",
+        told: "fault\t22\t1\t0\tline\n",
+    },
+    Case {
+        text: b"rig\t1\t1\tlines\tplain\tlate",
+        told: "fault\t22\t1\t0\tline\n",
+    },
+    Case {
+        text: b"rig\t9\t1\tlines",
+        told: "fault\t11\t1\t0\trig\n",
+    },
+    Case {
+        text: b"rig\t0\t1\tlines",
+        told: "fault\t11\t1\t0\trig\n",
+    },
+    Case {
+        text: b"rig\t1\t0\tlines",
+        told: "fault\t11\t1\t0\trig\n",
+    },
+    Case {
+        text: b"rig\t1\t1025\tlines",
+        told: "fault\t11\t1\t0\trig\n",
+    },
+];
+
+static NUMBERS_AND_AMOUNTS: [Case; 11] = [
+    Case {
+        text: b"rig\t1\t1\tlines\nset\t0\t-0\n",
+        told: "rig\t1\t1\tlines\tplain\nfault\t23\t2\t20\tfield\n",
+    },
+    Case {
+        text: b"rig\t1\t1\tlines\nset\t00\t1\n",
+        told: "rig\t1\t1\tlines\tplain\nfault\t23\t2\t18\tfield\n",
+    },
+    Case {
+        text: b"rig\t1\t1\tlines\nset\t0\t+1\n",
+        told: "rig\t1\t1\tlines\tplain\nfault\t23\t2\t20\tfield\n",
+    },
+    Case {
+        text: b"rig\t1\t1\tlines\nset\t0\t--1\n",
+        told: "rig\t1\t1\tlines\tplain\nfault\t23\t2\t20\tfield\n",
+    },
+    Case {
+        text: b"rig\t1\t1\tlines\nset\t0\t2147483648\n",
+        told: "rig\t1\t1\tlines\tplain\nfault\t23\t2\t20\tfield\n",
+    },
+    Case {
+        text: b"rig\t1\t1\tlines\nset\t0\t-2147483649\n",
+        told: "rig\t1\t1\tlines\tplain\nfault\t23\t2\t20\tfield\n",
+    },
+    Case {
+        text: b"rig\t1\t1\tlines\no\t4294967296\n",
+        told: "rig\t1\t1\tlines\tplain\nfault\t23\t2\t16\tfield\n",
+    },
+    Case {
+        text: b"rig\t1\t1\tlines\nr\t0\t",
+        told: "rig\t1\t1\tlines\tplain\nfault\t23\t2\t18\tfield\n",
+    },
+    Case {
+        text: b"rig\t1\t1\tlines\nset\t0\t2147483647",
+        told: "rig\t1\t1\tlines\tplain\nset\t0\t2147483647\nwhole\t2\n",
+    },
+    Case {
+        text: b"rig\t1\t1\tlines\nset\t0\t-2147483648",
+        told: "rig\t1\t1\tlines\tplain\nset\t0\t-2147483648\nwhole\t2\n",
+    },
+    Case {
+        text: b"rig\t1\t1\tlines\no\t4294967295",
+        told: "rig\t1\t1\tlines\tplain\no\t4294967295\nwhole\t2\n",
+    },
+];
+
+static LATER_LINES: [Case; 9] = [
+    Case {
+        text: b"rig\t1\t1\tlines\nrig\t1\t1\tlines\n",
+        told: "rig\t1\t1\tlines\tplain\nfault\t24\t2\t14\tline\n",
+    },
+    Case {
+        text: b"rig\t1\t1\tlines\no\t0\nset\t0\t1\n",
+        told: "rig\t1\t1\tlines\tplain\no\t0\nfault\t24\t3\t18\tline\n",
+    },
+    Case {
+        text: b"rig\t1\t1\tlines\no\t0\nset\t0\n",
+        told: "rig\t1\t1\tlines\tplain\no\t0\nfault\t24\t3\t18\tline\n",
+    },
+    Case {
+        text: b"rig\t1\t1\tlines\nset\t1\t5",
+        told: "rig\t1\t1\tlines\tplain\nfault\t4\t2\t14\trig\n",
+    },
+    Case {
+        text: b"rig\t1\t1\tlines\nset\t1\tx",
+        told: "rig\t1\t1\tlines\tplain\nfault\t23\t2\t20\tfield\n",
+    },
+    Case {
+        text: b"rig\t1\t1\tlines\no\t0\t\n",
+        told: "rig\t1\t1\tlines\tplain\nfault\t22\t2\t14\tline\n",
+    },
+    Case {
+        text: b"rig\t1\t1\tlines\n\n",
+        told: "rig\t1\t1\tlines\tplain\nfault\t21\t2\t14\tline\n",
+    },
+    Case {
+        text: b"rig\t1\t1\tlines\n\xff\t0\n",
+        told: "rig\t1\t1\tlines\tplain\nfault\t21\t2\t14\tline\n",
+    },
+    Case {
+        text: b"rig\t1\t1\tlines\no\t0\nx\t0",
+        told: "rig\t1\t1\tlines\tplain\no\t0\nfault\t21\t3\t18\tline\n",
+    },
+];
 
 #[test]
-fn rig_lines(rt: LibcRuntime) -> Result<(), Fail> {
+fn texts(rt: LibcRuntime) -> Result<(), Fail> {
     let heap = rt.alloc();
-    told(
-        heap,
-        b"rig\t8\t1024\tstores\tcareful",
-        "rig\t8\t1024\tstores\tcareful\nwhole\t1\n",
-    )?;
-    told(heap, b"rig\t1\t1\tlines\r\n", "fault\t21\t1\t8\tfield\n")?;
-    told(
-        heap,
-        b"rig\t1\t1\tlines\tbrave",
-        "fault\t21\t1\t14\tfield\n",
-    )?;
-    told(heap, b"rig\tx\ty\tz", "fault\t23\t1\t4\tfield\n")?;
-    told(heap, b"rig\t1\t1", "fault\t22\t1\t0\tline\n")?;
-    told(
-        heap,
-        b"rig\t1\t1\tlines\tplain\tlate",
-        "fault\t22\t1\t0\tline\n",
-    )?;
-    told(heap, b"rig\t9\t1\tlines", "fault\t11\t1\t0\trig\n")?;
-    told(heap, b"rig\t0\t1\tlines", "fault\t11\t1\t0\trig\n")?;
-    told(heap, b"rig\t1\t0\tlines", "fault\t11\t1\t0\trig\n")?;
-    told(heap, b"rig\t1\t1025\tlines", "fault\t11\t1\t0\trig\n")
-}
-
-#[test]
-fn numbers_and_amounts(rt: LibcRuntime) -> Result<(), Fail> {
-    let heap = rt.alloc();
-    told_after_rig(heap, b"set\t0\t-0\n", "fault\t23\t2\t20\tfield\n")?;
-    told_after_rig(heap, b"set\t00\t1\n", "fault\t23\t2\t18\tfield\n")?;
-    told_after_rig(heap, b"set\t0\t+1\n", "fault\t23\t2\t20\tfield\n")?;
-    told_after_rig(heap, b"set\t0\t--1\n", "fault\t23\t2\t20\tfield\n")?;
-    told_after_rig(heap, b"set\t0\t2147483648\n", "fault\t23\t2\t20\tfield\n")?;
-    told_after_rig(heap, b"set\t0\t-2147483649\n", "fault\t23\t2\t20\tfield\n")?;
-    told_after_rig(heap, b"o\t4294967296\n", "fault\t23\t2\t16\tfield\n")?;
-    told_after_rig(heap, b"r\t0\t", "fault\t23\t2\t18\tfield\n")?;
-    told_after_rig(
-        heap,
-        b"set\t0\t2147483647",
-        "set\t0\t2147483647\nwhole\t2\n",
-    )?;
-    told_after_rig(
-        heap,
-        b"set\t0\t-2147483648",
-        "set\t0\t-2147483648\nwhole\t2\n",
-    )?;
-    told_after_rig(heap, b"o\t4294967295", "o\t4294967295\nwhole\t2\n")
-}
-
-#[test]
-fn later_lines(rt: LibcRuntime) -> Result<(), Fail> {
-    let heap = rt.alloc();
-    told_after_rig(heap, b"rig\t1\t1\tlines\n", "fault\t24\t2\t14\tline\n")?;
-    told_after_rig(heap, b"o\t0\nset\t0\t1\n", "o\t0\nfault\t24\t3\t18\tline\n")?;
-    told_after_rig(heap, b"o\t0\nset\t0\n", "o\t0\nfault\t24\t3\t18\tline\n")?;
-    told_after_rig(heap, b"set\t1\t5", "fault\t4\t2\t14\trig\n")?;
-    told_after_rig(heap, b"set\t1\tx", "fault\t23\t2\t20\tfield\n")?;
-    told_after_rig(heap, b"o\t0\t\n", "fault\t22\t2\t14\tline\n")?;
-    told_after_rig(heap, b"\n", "fault\t21\t2\t14\tline\n")?;
-    told_after_rig(heap, b"\xff\t0\n", "fault\t21\t2\t14\tline\n")?;
-    told_after_rig(heap, b"o\t0\nx\t0", "o\t0\nfault\t21\t3\t18\tline\n")
+    each_told(heap, &TEXTS_WITHOUT_A_RIG)?;
+    each_told(heap, &RIG_LINES)?;
+    each_told(heap, &NUMBERS_AND_AMOUNTS)?;
+    each_told(heap, &LATER_LINES)
 }
 
 #[test]
