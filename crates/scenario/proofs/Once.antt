@@ -19,7 +19,7 @@ use Rattle.lines.specs.Faults.{LineRead, stageAfter}
 use Rattle.lines.proofs.Once.{says-once, line-once}
 use Rattle.faults.specs.declared.types.RigFault.{RigFault}
 use Rattle.faults.specs.declared.types.RigFault.the-variants as inRig
-use Rattle.scenario.specs.Texts.{Allowed, RigRead, LinesRead, Start, linesOfText, Says-text, long, empty, lined, TextOnce}
+use Rattle.scenario.specs.Texts.{Allowed, RigRead, LinesRead, Start, linesOfText, TextSays, long, empty, lined, TextOnce}
 
 in-line : (f g : LineFault) → _≡_ {A = Result Entry LineFault} (Err f) (Err g) → inRig.Line f ≡ inRig.Line g
 in-line f g e = cc

@@ -27,7 +27,7 @@ use Rattle.faults.specs.declared.types.RigFault.{RigFault}
 use Rattle.faults.specs.declared.types.RigFault.the-variants as inRig
 use Rattle.scenario.specs.declared.types.ReadError.{ReadError}
 use Rattle.scenario.specs.declared.types.ReadError.the-variants as error
-use Rattle.scenario.specs.Texts.{RigRead, LinesRead, Start, linesOfText, Says-text, long, empty, lined}
+use Rattle.scenario.specs.Texts.{RigRead, LinesRead, Start, linesOfText, TextSays, long, empty, lined}
 use Rattle.scenario.specs.Holdings.{rigLine, inOrder, Read}
 use Rattle.scenario.specs.Steps.{Held, nothing, listed, put, Orderly, stageAt, Sized, Ends}
 
@@ -152,6 +152,6 @@ text-ends text es (Err error.NoMemory) (some, short) h = h
 
 pub text-unsized : (text : List ℕ) (f : RigFault) (h : Held) → h ≡ nothing → Sized text (Err f) → Read text (listed h) (Err (error.Fault f))
 text-unsized text f h e s =
-    let P : List Entry → Type 0 = λ x. Says-text text x (Some f) in
-    let Q : RigFault → Type 0 = λ x. Says-text text [] (Some x) in
+    let P : List Entry → Type 0 = λ x. TextSays text x (Some f) in
+    let Q : RigFault → Type 0 = λ x. TextSays text [] (Some x) in
     subst P (sym (ap listed e)) (⊎-elim (λ (x : (65536 < length text) × (f ≡ inRig.Line inLine.TooLong)). subst Q (sym (x .1)) (long (x .0))) (λ (x : (length text ≡ 0) × (f ≡ inRig.Line (inLine.Misplaced textStart))). subst Q (sym (x .1)) (empty (x .0))) s)

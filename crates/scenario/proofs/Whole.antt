@@ -30,7 +30,7 @@ use Rattle.lines.proofs.Texts.{says-line}
 use Rattle.faults.specs.declared.types.RigFault.{RigFault}
 use Rattle.scenario.specs.declared.types.ReadError.{ReadError}
 use Rattle.scenario.specs.declared.types.ReadError.the-variants as error
-use Rattle.scenario.specs.Texts.{LinesRead, Start, Says-text, long, empty, lined}
+use Rattle.scenario.specs.Texts.{LinesRead, Start, TextSays, long, empty, lined}
 use Rattle.scenario.specs.Holdings.{rigLine, inOrder, Read}
 use Rattle.scenario.specs.Laws.{scenarioText, Lawful, LinesSay, TextOf, Whole, SaysExactly, RenderedSays, ending, ReadBack}
 use Rattle.scenario.specs.Steps.{EndWritten}
@@ -53,7 +53,7 @@ entries-many s p [] (e ∷ es) fault h = absurd h
 entries-many s p (l ∷ ls) [] fault h = omega arith
 entries-many s p (l ∷ ls) (e ∷ es) fault (h, t) = omega (arith, entries-many (stageAfter s e) (afterLine p l) ls es fault t)
 
-pub few-entries : (text : List ℕ) (es : List Entry) (fault : Option RigFault) → Says-text text es fault → length es ≤ 65536
+pub few-entries : (text : List ℕ) (es : List Entry) (fault : Option RigFault) → TextSays text es fault → length es ≤ 65536
 few-entries text _ _ (long h) = omega arith
 few-entries text _ _ (empty h) = omega arith
 few-entries text _ _ (lined es fault some short h) = omega (arith, entries-many Start textStart (linesOf text) es fault h, lines-many text)
@@ -129,7 +129,7 @@ some-line (x ∷ xs) some =
     onto-some [] = omega arith
     onto-some (l ∷ ls) = omega arith
 
-said-whole : (text : List ℕ) (es : List Entry) (fault : Option RigFault) → fault ≡ None → Says-text text es fault → Whole text es
+said-whole : (text : List ℕ) (es : List Entry) (fault : Option RigFault) → fault ≡ None → TextSays text es fault → Whole text es
 said-whole text _ _ e (long h) = absurd (no-fault _ e)
 said-whole text _ _ e (empty h) = absurd (no-fault _ e)
 said-whole text _ _ e (lined es fault some short h) =
@@ -138,7 +138,7 @@ said-whole text _ _ e (lined es fault some short h) =
     let r = read-lawful Start textStart (linesOf text) es g in
     record { some = some-entry Start (linesFrom textStart (linesOf text)) es (some-line text some) g; short = short; lawful = r .0; made = (linesOf text, r .1, lines-text text some) }
 
-whole-said : (text : List ℕ) (es : List Entry) → Whole text es → Says-text text es None
+whole-said : (text : List ℕ) (es : List Entry) → Whole text es → TextSays text es None
 whole-said text es w =
     let ls : List (List ℕ) = w .made .0 in
     let say : LinesSay es ls = w .made .1 in

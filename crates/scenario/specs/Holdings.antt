@@ -19,7 +19,7 @@ use Rattle.faults.specs.declared.types.RigFault.{RigFault}
 use Rattle.scenario.specs.declared.types.ReadError.{ReadError}
 use Rattle.scenario.specs.declared.types.ReadError.the-variants as error
 use Rattle.scenario.specs.declared.types.Scenario.{Scenario}
-use Rattle.scenario.specs.Texts.{Says-text, LinesRead, Start, linesOfText}
+use Rattle.scenario.specs.Texts.{TextSays, LinesRead, Start, linesOfText}
 
 -- the rig line, if there is one, then the settings, then the calls
 abbrev pub rigLine : Option RigLine → List Entry
@@ -35,6 +35,6 @@ entriesOf s = inOrder (s .rig) (vec-items (s .settings)) (vec-items (s .calls))
 -- what a reading holds is all that the text says, or what it says up to the fault;
 -- where memory ran out, it is what the first lines say, as many as are held
 abbrev pub Read : List ℕ → List Entry → Result (Unit {0}) ReadError → Type 0
-Read text es (Ok _) = Says-text text es None
-Read text es (Err (error.Fault f)) = Says-text text es (Some f)
+Read text es (Ok _) = TextSays text es None
+Read text es (Err (error.Fault f)) = TextSays text es (Some f)
 Read text es (Err error.NoMemory) = LinesRead Start (take (length es) (linesOfText text)) es None

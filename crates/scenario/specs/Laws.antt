@@ -15,7 +15,7 @@ use Rattle.lines.specs.declared.types.Stage.{Stage}
 use Rattle.entries.specs.Rendering.{wordOf, lineText, Fits, Says}
 use Rattle.lines.specs.Faults.{Placed, stageAfter}
 use Rattle.faults.specs.declared.types.RigFault.{RigFault}
-use Rattle.scenario.specs.Texts.{Allowed, Start, Says-text}
+use Rattle.scenario.specs.Texts.{Allowed, Start, TextSays}
 use Rattle.faults.specs.Reports.{reportOf, reportText}
 
 -- the text of each entry, with a newline (byte 10) after it
@@ -46,11 +46,11 @@ pub record Whole (text : List ℕ) (es : List Entry) : Type 0 where
 
 -- a text says a scenario to its end exactly when it is a text of that scenario, and the scenario is one that may be
 abbrev pub SaysExactly : Type 0
-SaysExactly = (text : List ℕ) (es : List Entry) → (Says-text text es None → Whole text es) × (Whole text es → Says-text text es None)
+SaysExactly = (text : List ℕ) (es : List Entry) → (TextSays text es None → Whole text es) × (Whole text es → TextSays text es None)
 
 -- what is rendered says what was rendered
 abbrev pub RenderedSays : Type 0
-RenderedSays = (es : List Entry) → 0 < length es → Lawful Start es → length (scenarioText es) ≤ 65536 → Says-text (scenarioText es) es None
+RenderedSays = (es : List Entry) → 0 < length es → Lawful Start es → length (scenarioText es) ≤ 65536 → TextSays (scenarioText es) es None
 
 -- What `readback` prints: the entries up to the first fault, and a line that tells how the reading ended.
 
@@ -60,4 +60,4 @@ ending es None = rejoined 9 (codes "whole" ∷ decimal (length es) ∷ [])
 ending es (Some f) = reportText (reportOf f)
 
 abbrev pub ReadBack : List ℕ → List ℕ → Type 0
-ReadBack text out = (es : List Entry) × ((fault : Option RigFault) × Says-text text es fault × (out ≡ scenarioText es ++ (ending es fault ++ (10 ∷ []))))
+ReadBack text out = (es : List Entry) × ((fault : Option RigFault) × TextSays text es fault × (out ≡ scenarioText es ++ (ending es fault ++ (10 ∷ []))))

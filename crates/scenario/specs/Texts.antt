@@ -55,11 +55,11 @@ linesOfText text = linesAt textStart text
 
 -- the text says these entries, up to this fault or its end: a text of more than 65,536 bytes is too long,
 -- and an empty one lacks the rig line; any other is read line by line
-pub data Says-text (text : List ℕ) : List Entry → Option RigFault → Type 0 where
-  long : 65536 < length text → Says-text text [] (Some (inRig.Line inLine.TooLong))
-  empty : length text ≡ 0 → Says-text text [] (Some (inRig.Line (inLine.Misplaced textStart)))
-  lined : (es : List Entry) (fault : Option RigFault) → 0 < length text → length text ≤ 65536 → LinesRead Start (linesOfText text) es fault → Says-text text es fault
+pub data TextSays (text : List ℕ) : List Entry → Option RigFault → Type 0 where
+  long : 65536 < length text → TextSays text [] (Some (inRig.Line inLine.TooLong))
+  empty : length text ≡ 0 → TextSays text [] (Some (inRig.Line (inLine.Misplaced textStart)))
+  lined : (es : List Entry) (fault : Option RigFault) → 0 < length text → length text ≤ 65536 → LinesRead Start (linesOfText text) es fault → TextSays text es fault
 
 -- a text is read in one way
 abbrev pub TextOnce : Type 0
-TextOnce = (text : List ℕ) (es ds : List Entry) (f g : Option RigFault) → Says-text text es f → Says-text text ds g → (es ≡ ds) × (f ≡ g)
+TextOnce = (text : List ℕ) (es ds : List Entry) (f g : Option RigFault) → TextSays text es f → TextSays text ds g → (es ≡ ds) × (f ≡ g)
