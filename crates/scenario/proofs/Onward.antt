@@ -4,13 +4,16 @@ use mathlib.Core.Logic.{⊎-elim}
 use mathlib.Core.List.{List, [], _∷_, _++_, map, append-assoc, append-nil}
 use Prim.Native.Nat.{ℕ, suc, _+_, _<_, _≤_}
 use native.Mathlib.Omega.{arith}
+use lib.Dec.{eqb}
 use lib.ListN.{length, take}
-use Rattle.std.proofs.shelf.Lists.{take-at, map-append}
+use Rattle.std.proofs.shelf.Lists.{take-at, map-append, length-push}
+use Rattle.std.proofs.shelf.Tests.{cond-both}
 use Rattle.std.specs.declared.option.Option.{Option}
 use Rattle.std.specs.declared.option.Option.the-variants.{Some, None}
 use Rattle.std.specs.declared.result.Result.{Result}
 use Rattle.std.specs.declared.result.Result.the-variants.{Ok, Err}
-use Rattle.fields.specs.Parts.{Piece, textStart}
+use Rattle.faults.specs.declared.types.Place.{Place}
+use Rattle.fields.specs.Parts.{Piece, linesOf, onto, afterLine, linesFrom, textStart}
 use Rattle.entries.specs.declared.types.RigLine.{RigLine}
 use Rattle.entries.specs.declared.types.Setting.{Setting}
 use Rattle.entries.specs.declared.types.HeadCall.{HeadCall}
@@ -28,8 +31,8 @@ use Rattle.faults.specs.declared.types.RigFault.the-variants as inRig
 use Rattle.scenario.specs.declared.types.ReadError.{ReadError}
 use Rattle.scenario.specs.declared.types.ReadError.the-variants as error
 use Rattle.scenario.specs.Texts.{RigRead, LinesRead, Start, linesOfText, TextSays, long, empty, lined}
-use Rattle.scenario.specs.Holdings.{rigLine, inOrder, Read}
-use Rattle.scenario.specs.Steps.{Held, nothing, listed, put, Orderly, stageAt, Sized, Ends}
+use Rattle.scenario.specs.Holdings.{rigLine, inOrder, Read, Checked}
+use Rattle.scenario.specs.Steps.{Held, nothing, listed, put, Orderly, stageAt, Sized, Ends, LinesCounted}
 
 -- an entry that may stand at a stage goes to the end of what is held
 
@@ -155,3 +158,57 @@ text-unsized text f h e s =
     let P : List Entry → Type 0 = λ x. TextSays text x (Some f) in
     let Q : RigFault → Type 0 = λ x. TextSays text [] (Some x) in
     subst P (sym (ap listed e)) (⊎-elim (λ (x : (65536 < length text) × (f ≡ inRig.Line inLine.TooLong)). subst Q (sym (x .1)) (long (x .0))) (λ (x : (length text ≡ 0) × (f ≡ inRig.Line (inLine.Misplaced textStart))). subst Q (sym (x .1)) (empty (x .0))) s)
+
+-- how many lines there are
+
+pub lines-many : (text : List ℕ) → length (linesOf text) ≤ length text
+lines-many [] = omega arith
+lines-many (x ∷ xs) =
+    let P : List (List ℕ) → Type 0 = λ l. length l ≤ suc (length xs) in
+    cond-both (eqb x 10) ([] ∷ linesOf xs) (onto x (linesOf xs)) P (λ _. omega (arith, lines-many xs)) (λ _. onto-many (linesOf xs) (lines-many xs))
+  where
+    onto-many : (ls : List (List ℕ)) → length ls ≤ length xs → length (onto x ls) ≤ suc (length xs)
+    onto-many [] h = omega arith
+    onto-many (l ∷ ls) h = omega arith
+
+length-lines : (p : Place) (ls : List (List ℕ)) → length (linesFrom p ls) ≡ length ls
+length-lines p [] = refl
+length-lines p (l ∷ ls) = ap suc (length-lines (afterLine p l) ls)
+
+-- the same for a reading that only counts
+
+pub record Counting (lines left : List Piece) (s : Stage) (n : ℕ) : Type 0 where
+  pub kept : Held
+  pub come : Come lines left s kept
+  pub is : n ≡ length (listed kept)
+  pub few : n + length left ≤ 65536
+
+pub counting-first : (text : List ℕ) (left : List Piece) → length text ≤ 65536 → left ≡ linesOfText text → Counting (linesOfText text) left Start 0
+counting-first text left short e =
+    let P : List Piece → Type 0 = λ x. Counting (linesOfText text) x Start 0 in
+    subst P (sym e) (record { kept = nothing; come = come-first (linesOfText text) nothing refl; is = refl; few = omega (arith, length-lines textStart (linesOf text), lines-many text) })
+
+pub counting-next : (lines before left : List Piece) (s t : Stage) (n : ℕ) (l : Piece) (e : Entry) → Counting lines before s n → before ≡ l ∷ left → RigRead s l (Ok e) → t ≡ stageAfter s e → Counting lines left t (n + 1)
+counting-next lines before left s t n l e c next r q =
+    let h = c .kept in
+    let last = put-last s h e (c .come .orderly) (r .0 .1) in
+    let more : length (listed (put h e)) ≡ length (listed h) + 1 = ap length (last .0) ∙ length-push (listed h) e in
+    record {
+      kept = put h e;
+      come = come-next lines before left s h l (c .come) next e (put h e) t r refl q;
+      is = omega (arith, more, c .is);
+      few = omega (arith, c .few, ap length next);
+    }
+
+pub counting-fault : (lines before left : List Piece) (s : Stage) (n : ℕ) (l : Piece) (f : RigFault) → Counting lines before s n → before ≡ l ∷ left → RigRead s l (Err f) → LinesCounted lines (Err f)
+counting-fault lines before left s n l f c next r = (listed (c .kept), come-fault lines before left s (c .kept) l (c .come) next f r)
+
+pub counting-last : (lines left : List Piece) (s : Stage) (n : ℕ) → Counting lines left s n → left ≡ [] → LinesCounted lines (Ok n)
+counting-last lines left s n c e = (listed (c .kept), come-last lines left s (c .kept) (c .come) e, c .is)
+
+pub text-counted : (text : List ℕ) (r : Result ℕ RigFault) → (0 < length text) × (length text ≤ 65536) → LinesCounted (linesOfText text) r → Checked text r
+text-counted text (Ok n) (some, short) (es, h, e) = (es, lined es None some short h, e)
+text-counted text (Err f) (some, short) (es, h) = (es, lined es (Some f) some short h)
+
+pub text-unsized-counted : (text : List ℕ) (f : RigFault) → Sized text (Err f) → Checked text (Err f)
+text-unsized-counted text f s = ([], text-unsized text f nothing refl s)

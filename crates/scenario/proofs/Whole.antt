@@ -28,6 +28,7 @@ use Rattle.entries.specs.Rendering.{lineText, Says}
 use Rattle.lines.specs.Faults.{stageAfter}
 use Rattle.lines.proofs.Texts.{says-line}
 use Rattle.faults.specs.declared.types.RigFault.{RigFault}
+use Rattle.scenario.proofs.Onward.{lines-many}
 use Rattle.scenario.specs.declared.types.ReadError.{ReadError}
 use Rattle.scenario.specs.declared.types.ReadError.the-variants as error
 use Rattle.scenario.specs.Texts.{LinesRead, Start, TextSays, long, empty, lined}
@@ -36,16 +37,6 @@ use Rattle.scenario.specs.Laws.{scenarioText, Lawful, LinesSay, TextOf, Whole,
 use Rattle.scenario.specs.Steps.{EndWritten}
 
 -- how many lines and entries there are
-
-lines-many : (text : List ℕ) → length (linesOf text) ≤ length text
-lines-many [] = omega arith
-lines-many (x ∷ xs) =
-    let P : List (List ℕ) → Type 0 = λ l. length l ≤ suc (length xs) in
-    cond-both (eqb x 10) ([] ∷ linesOf xs) (onto x (linesOf xs)) P (λ _. omega (arith, lines-many xs)) (λ _. onto-many (linesOf xs) (lines-many xs))
-  where
-    onto-many : (ls : List (List ℕ)) → length ls ≤ length xs → length (onto x ls) ≤ suc (length xs)
-    onto-many [] h = omega arith
-    onto-many (l ∷ ls) h = omega arith
 
 entries-many : (s : Stage) (p : Place) (ls : List (List ℕ)) (es : List Entry) (fault : Option RigFault) → LinesRead s (linesFrom p ls) es fault → length es ≤ length ls
 entries-many s p [] [] fault h = omega arith

@@ -38,3 +38,8 @@ abbrev pub Read : List ℕ → List Entry → Result (Unit {0}) ReadError → Ty
 Read text es (Ok _) = TextSays text es None
 Read text es (Err (error.Fault f)) = TextSays text es (Some f)
 Read text es (Err error.NoMemory) = LinesRead Start (take (length es) (linesOfText text)) es None
+
+-- the text has a reading, and this is how it ends: after so many lines, or at this fault
+abbrev pub Checked : List ℕ → Result ℕ RigFault → Type 0
+Checked text (Ok n) = (es : List Entry) × TextSays text es None × (n ≡ length es)
+Checked text (Err f) = (es : List Entry) × TextSays text es (Some f)

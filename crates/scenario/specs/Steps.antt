@@ -71,6 +71,11 @@ Ends lines es (Ok _) = LinesRead Start lines es None
 Ends lines es (Err (error.Fault f)) = LinesRead Start lines es (Some f)
 Ends lines es (Err error.NoMemory) = LinesRead Start (take (length es) lines) es None
 
+-- the lines have a reading, which ends after so many of them or at this fault
+abbrev pub LinesCounted : List Piece → Result ℕ RigFault → Type 0
+LinesCounted lines (Ok n) = (es : List Entry) × LinesRead Start lines es None × (n ≡ length es)
+LinesCounted lines (Err f) = (es : List Entry) × LinesRead Start lines es (Some f)
+
 -- how the reading ended is added to what was written
 abbrev pub EndWritten : List Entry → Result (Unit {0}) ReadError → List ℕ → List ℕ → Type 0
 EndWritten es (Ok _) before after = after ≡ before ++ (ending es None ++ (10 ∷ []))

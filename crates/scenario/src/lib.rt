@@ -8,6 +8,7 @@ mod types;
 pub use back::readback;
 pub use errors::ReadFromAlloc;
 pub use errors::ReadFromRig;
+pub use texts::check;
 pub use texts::read;
 pub use types::ReadError;
 pub use types::Reading;

@@ -8,8 +8,8 @@ ghost use Rattle.fields.specs.Parts.{Piece};
 ghost use Rattle.lines.specs.Faults.{LineRead};
 ghost use Rattle.faults.specs.declared.types.RigFault.the-variants as inRig;
 ghost use Rattle.scenario.specs.Texts.{Allowed, RigRead, TextOnce, linesOfText};
-ghost use Rattle.scenario.specs.Holdings.{entriesOf, Read};
-ghost use Rattle.scenario.specs.Steps.{Sized, held, put, nothing, Ends};
+ghost use Rattle.scenario.specs.Holdings.{entriesOf, Read, Checked};
+ghost use Rattle.scenario.specs.Steps.{Sized, held, put, nothing, Ends, LinesCounted};
 use crate::errors::ReadFromAlloc;
 use crate::errors::ReadFromRig;
 use crate::types::ReadError;
@@ -129,4 +129,28 @@ pub fn read(heap: Global, text: &[u8]) -> Reading
     };
     let end = take_text(&mut scenario, text);
     Reading { scenario, end }
+}
+
+// The first fault of the lines of a text, or how many lines it has.
+fn count_lines(text: &[u8]) -> Result<usize, RigFault>
+    requires { ⌜ length (now text) ≤ 65536 ⌝ }
+    ensures { λ r. ⌜ LinesCounted (linesOfText (now (text .entry))) r ⌝ }
+{
+    let mut reader = Reader::new(text);
+    let mut stage = Stage::Start;
+    let mut count: usize = 0;
+    while let Some(line) = next_entry(stage, &mut reader) {
+        let said = rig_entry(stage, line)?;
+        stage = stage.after(said);
+        count += 1;
+    }
+    Ok(count)
+}
+
+// The first fault of a text, or how many lines it has where it has none. It needs no memory.
+pub fn check(text: &[u8]) -> Result<usize, RigFault>
+    ensures { λ r. ⌜ Checked (now (text .entry)) r ⌝ }
+{
+    sized(text)?;
+    count_lines(text)
 }
