@@ -4,7 +4,6 @@ use mathlib.Core.Logic.{_⊎_}
 use mathlib.Core.List.{List, [], _∷_}
 use Prim.Native.Nat.{ℕ, _≤_}
 use lib.Chars.{codes}
-use lib.IntN.{ℤ}
 use lib.Signed.{mag}
 use Rattle.std.specs.Written.{decimal, signed}
 use Rattle.std.specs.Pieces.{rejoined}
@@ -12,11 +11,8 @@ use Rattle.entries.specs.declared.types.BoardName.{BoardName}
 use Rattle.entries.specs.declared.types.BoardName.the-variants as board
 use Rattle.entries.specs.declared.types.PolicyName.{PolicyName}
 use Rattle.entries.specs.declared.types.PolicyName.the-variants as policy
-use Rattle.entries.specs.declared.types.RigLine.{RigLine}
-use Rattle.entries.specs.declared.types.Setting.{Setting}
 use Rattle.entries.specs.declared.types.Call.{Call}
 use Rattle.entries.specs.declared.types.Call.the-variants as call
-use Rattle.entries.specs.declared.types.HeadCall.{HeadCall}
 use Rattle.entries.specs.declared.types.Entry.{Entry}
 use Rattle.entries.specs.declared.types.Entry.the-variants as entry
 use Rattle.entries.specs.declared.types.Letter.{Letter}

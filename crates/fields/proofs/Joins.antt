@@ -1,21 +1,18 @@
 -- The parts of a text, and the text again.
 use mathlib.Core.Path.{_≡_, refl, sym, ap, subst, _∙_}
-use mathlib.Core.Bool.{Bool, true, false, cond}
+use mathlib.Core.Bool.{true, false}
 use mathlib.Core.List.{List, [], _∷_, _++_, append-assoc, append-nil}
 use mathlib.Core.Logic.{_⊎_, inl, inr, ⊎-elim}
-use Prim.Native.Nat.{ℕ, zero, suc, _+_, _-_, _<_, _≤_}
+use Prim.Native.Nat.{ℕ, suc, _+_, _-_, _<_, _≤_}
 use native.Mathlib.Omega.{arith}
 use lib.Dec.{eqb}
 use lib.ListN.{length, take, drop, length-append}
 use Rattle.std.specs.Finite.{All}
 use Rattle.std.specs.Pieces.{rejoined}
-use Rattle.std.proofs.shelf.Lists.{nil-from-length, length-drop, drop-all, drop-drop, drop-append-le, take-at, take-append-le}
+use Rattle.std.proofs.shelf.Lists.{nil-from-length, drop-all, drop-drop, drop-append-le, take-at, take-append-le}
 use Rattle.std.proofs.shelf.Tests.{cond-true, cond-false, cond-both, cases-bool, cases-lt, eqb-true, eqb-false, eq-eqb, ne-eqb}
-use Rattle.std.specs.declared.option.Option.{Option}
-use Rattle.std.specs.declared.option.Option.the-variants.{Some, None}
 use Rattle.faults.specs.declared.types.Place.{Place}
-use Rattle.fields.specs.declared.parts.Part.{Part}
-use Rattle.fields.specs.Parts.{split, onto, linesOf, afterLine, linesFrom, linesAt, afterField, fieldsFrom, fieldsAt, fieldsOf, bytesOf, Piece, piece, ended, Without, inRow, LiesIn, Lined, FieldsOfLine, Fielded, textStart}
+use Rattle.fields.specs.Parts.{split, onto, linesOf, afterLine, linesFrom, linesAt, afterField, fieldsFrom, fieldsAt, bytesOf, Piece, ended, Without, inRow, LiesIn, Lined, FieldsOfLine, textStart}
 
 -- fields
 

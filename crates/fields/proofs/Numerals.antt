@@ -1,18 +1,17 @@
 -- Digits and the numerals of numbers.
-use mathlib.Core.Path.{_≡_, refl, sym, ap, subst, _∙_}
+use mathlib.Core.Path.{_≡_, refl, sym, ap, _∙_}
 use mathlib.Core.Bool.{Bool, true, false, cond, _&&_}
 use mathlib.Core.List.{List, [], _∷_}
 use mathlib.Core.Logic.{⊎-elim}
-use Prim.Native.Nat.{ℕ, zero, suc, _+_, _-_, _*_, _^_, _<_, _≤_}
+use Prim.Native.Nat.{ℕ, suc, _+_, _-_, _*_, _^_, _<_, _≤_}
 use native.Mathlib.Omega.{arith}
 use borrow.Author.Needs.{needs}
 use lib.Dec.{eqb, leb}
 use lib.IntN.{ℤ, pos, negsuc}
-use lib.Signed.{mag}
 use lib.ListN.{length, getD, take, drop}
-use Rattle.std.specs.Written.{decimal, signed}
+use Rattle.std.specs.Written.{decimal}
 use Rattle.std.specs.shelf.Text.{allDigits}
-use Rattle.std.proofs.shelf.Lists.{at-drop-more, at-drop-all, take-all}
+use Rattle.std.proofs.shelf.Lists.{at-drop-more, take-all}
 use Rattle.std.proofs.shelf.Tests.{lt-leb, le-leb, leb-true, leb-false, eqb-true, eqb-false, and-left, and-right, and-from, and-parts, false≢true, cases-eq, cond-both}
 use Rattle.std.proofs.shelf.Numerals.{Numerals, numerals-by-fold, tells-allDigits}
 use Rattle.std.proofs.shelf.Decimals.{decimal-value, digits-decimal, value-decimal, decimal-some, first-decimal, decimal-digit, same-from-decimal}

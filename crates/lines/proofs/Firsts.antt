@@ -1,6 +1,6 @@
 -- The first trouble of a line.
 use mathlib.Core.Path.{_≡_, refl, sym, ap, subst, _∙_}
-use mathlib.Core.Bool.{Bool, true, false, cond}
+use mathlib.Core.Bool.{cond}
 use mathlib.Core.Logic.{_⊎_, inl, inr, ⊎-elim}
 use mathlib.Core.List.{List, [], _∷_}
 use Prim.Native.Nat.{ℕ, zero, suc, _+_, _*_, _<_, _≤_}
@@ -11,8 +11,6 @@ use Rattle.std.specs.Finite.{nth}
 use Rattle.std.proofs.shelf.Tests.{cases-lt}
 use Rattle.std.specs.declared.option.Option.{Option}
 use Rattle.std.specs.declared.option.Option.the-variants.{Some, None}
-use Rattle.faults.specs.declared.types.Place.{Place}
-use Rattle.fields.specs.declared.parts.Part.{Part}
 use Rattle.faults.specs.declared.types.FieldFault.{FieldFault}
 use Rattle.fields.specs.Parts.{Piece, fieldsAt}
 use Rattle.faults.specs.declared.types.LineFault.{LineFault}

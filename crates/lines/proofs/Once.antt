@@ -1,9 +1,9 @@
 -- A line is read in one way.
 use mathlib.Core.Path.{_≡_, refl, sym, ap, subst, _∙_}
-use mathlib.Core.Bool.{Bool, true, false, cond}
-use mathlib.Core.Logic.{_⊎_, inl, inr}
+use mathlib.Core.Bool.{cond}
+use mathlib.Core.Logic.{inl, inr}
 use mathlib.Core.List.{List, [], _∷_}
-use Prim.Native.Nat.{ℕ, zero, suc, _+_, _-_, _≤_}
+use Prim.Native.Nat.{ℕ, suc, _-_, _≤_}
 use native.Mathlib.Omega.{arith}
 use lib.Dec.{eqb}
 use lib.IntN.{ℤ, pos, negsuc}
@@ -13,19 +13,15 @@ use Rattle.std.specs.Finite.{nth}
 use Rattle.std.specs.Written.{decimal, signed}
 use Rattle.std.proofs.shelf.Decimals.{value-decimal}
 use Rattle.std.proofs.shelf.Tests.{cond-false, ne-eqb}
-use Rattle.std.specs.declared.option.Option.the-variants.{Some, None}
-use Rattle.std.specs.declared.result.Result.{Result}
+use Rattle.std.specs.declared.option.Option.the-variants.{Some}
 use Rattle.std.specs.declared.result.Result.the-variants.{Ok, Err}
 use Rattle.fields.specs.Numbers.{Number, after}
-use Rattle.fields.specs.Parts.{Piece, split, fieldsAt}
+use Rattle.fields.specs.Parts.{Piece, fieldsAt}
 use Rattle.fields.proofs.Numerals.{own, digits-of, some-of, no-minus}
 use Rattle.entries.specs.declared.types.BoardName.{BoardName}
 use Rattle.entries.specs.declared.types.BoardName.the-variants as board
 use Rattle.entries.specs.declared.types.PolicyName.{PolicyName}
 use Rattle.entries.specs.declared.types.PolicyName.the-variants as policy
-use Rattle.entries.specs.declared.types.RigLine.{RigLine}
-use Rattle.entries.specs.declared.types.Setting.{Setting}
-use Rattle.entries.specs.declared.types.HeadCall.{HeadCall}
 use Rattle.entries.specs.declared.types.Call.{Call}
 use Rattle.entries.specs.declared.types.Call.the-variants as call
 use Rattle.entries.specs.declared.types.Entry.{Entry}
@@ -35,11 +31,10 @@ use Rattle.entries.specs.declared.types.Letter.the-variants as letter
 use Rattle.entries.specs.declared.types.Word.{Word}
 use Rattle.entries.specs.declared.types.Word.the-variants as word
 use Rattle.lines.specs.declared.types.Stage.{Stage}
-use Rattle.faults.specs.declared.types.LineFault.{LineFault}
-use Rattle.entries.specs.Rendering.{Says, wordOf, letterOf, boardText, policyText, wordText, operands, values, CallFits, Fits}
-use Rattle.lines.specs.Faults.{Kind, Trouble, unknown, misplaced, miscounted, bad, Leads, Wrong, kinds, order, First, reported, LineRead, LineOnce, Refused}
+use Rattle.entries.specs.Rendering.{Says, wordOf, letterOf, boardText, policyText, operands, CallFits, Fits}
+use Rattle.lines.specs.Faults.{Trouble, unknown, misplaced, miscounted, bad, Leads, Wrong, kinds, order, First, reported, LineOnce}
 use Rattle.lines.proofs.Firsts.{some-eq, same-word}
-use Rattle.lines.proofs.Texts.{Values, says-fields, said-or-wrong}
+use Rattle.lines.proofs.Texts.{Values, says-fields}
 
 -- the value that a field writes, got back from its bytes
 

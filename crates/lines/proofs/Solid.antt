@@ -1,6 +1,6 @@
 -- No field that is written holds a tab or a newline: its bytes are all at least a minus sign (45).
-use mathlib.Core.Path.{_≡_, refl, sym, ap, _∙_}
-use mathlib.Core.Bool.{Bool, true, false, _&&_}
+use mathlib.Core.Path.{_≡_, refl}
+use mathlib.Core.Bool.{Bool, true, _&&_}
 use mathlib.Core.List.{List, [], _∷_, _++_}
 use Prim.Native.Nat.{ℕ, suc, _+_, _≤_, _<_}
 use native.Mathlib.Omega.{arith}
@@ -28,7 +28,7 @@ use Rattle.entries.specs.declared.types.Word.{Word}
 use Rattle.entries.specs.declared.types.Word.the-variants as word
 use Rattle.entries.specs.declared.types.Entry.{Entry}
 use Rattle.entries.specs.declared.types.Entry.the-variants as entry
-use Rattle.entries.specs.Rendering.{boardText, policyText, letterText, wordText, wordOf, operands, values, ShortValues, CallFits, Fits}
+use Rattle.entries.specs.Rendering.{boardText, policyText, letterText, wordText, operands, values, ShortValues, CallFits, Fits}
 
 abbrev pub solid : List ℕ → Bool
 solid [] = true

@@ -2,12 +2,12 @@
 use mathlib.Core.Path.{_≡_, refl, sym, ap, subst, _∙_}
 use mathlib.Core.Logic.{_⊎_, inl, inr, ⊎-elim}
 use mathlib.Core.List.{List, [], _∷_}
-use Prim.Native.Nat.{ℕ, zero, suc, _<_, _≤_}
+use Prim.Native.Nat.{ℕ, zero, suc, _<_}
 use native.Mathlib.Omega.{arith}
 use lib.ListN.{length, length-append}
 use Rattle.std.specs.Finite.{nth, All}
 use Rattle.std.specs.Pieces.{rejoined}
-use Rattle.std.specs.declared.option.Option.the-variants.{Some, None}
+use Rattle.std.specs.declared.option.Option.the-variants.{Some}
 use Rattle.faults.specs.declared.types.Place.{Place}
 use Rattle.fields.specs.Parts.{Piece, split, bytesOf, afterField, fieldsFrom, fieldsAt, Without}
 use Rattle.fields.proofs.Joins.{split-joined, join-split, bytes-of-fields}
@@ -23,7 +23,7 @@ use Rattle.lines.specs.declared.types.Line.{Line}
 use Rattle.lines.specs.declared.types.Stage.{Stage}
 use Rattle.faults.specs.declared.types.LineFault.{LineFault}
 use Rattle.entries.specs.Rendering.{wordText, letterText, wordOf, letterOf, operands, values, ShortValues, CallFits, Fits, joined, Says}
-use Rattle.lines.specs.Faults.{Kind, kinds, operandKinds, least, Counted, Placed, Good, Trouble, unknown, misplaced, miscounted, bad, Leads, Wrong, First, reported, Refused}
+use Rattle.lines.specs.Faults.{Kind, kinds, operandKinds, Counted, Placed, Good, Trouble, unknown, misplaced, miscounted, bad, Wrong, First, reported, Refused}
 use Rattle.lines.specs.Steps.{lineParts, lineWord, Valued}
 use Rattle.lines.proofs.Solid.{Solid, solid-word, solid-values, solid-short, all-without, joined-without}
 use Rattle.lines.proofs.Firsts.{some-eq, one-word, is-here, is-counted}

@@ -16,7 +16,6 @@ use Rattle.fields.specs.Numbers.{Number, Amount}
 use Rattle.fields.specs.Parts.{Piece, fieldsAt}
 use Rattle.entries.specs.declared.types.BoardName.{BoardName}
 use Rattle.entries.specs.declared.types.PolicyName.{PolicyName}
-use Rattle.entries.specs.declared.types.RigLine.{RigLine}
 use Rattle.entries.specs.declared.types.Letter.{Letter}
 use Rattle.entries.specs.declared.types.Letter.the-variants as letter
 use Rattle.entries.specs.declared.types.Word.{Word}

@@ -2,7 +2,6 @@
 use mathlib.Core.Path.{_≡_}
 use mathlib.Core.Logic.{_⊎_}
 use mathlib.Core.List.{List, [], _∷_}
-use Prim.Native.Nat.{ℕ}
 use lib.ListN.{length}
 use Rattle.std.specs.declared.option.Option.{Option}
 use Rattle.std.specs.declared.option.Option.the-variants.{Some, None}
@@ -26,7 +25,7 @@ use Rattle.lines.specs.declared.types.Line.the-variants as line
 use Rattle.lines.specs.declared.types.Stage.{Stage}
 use Rattle.faults.specs.declared.types.LineFault.{LineFault}
 use Rattle.entries.specs.Rendering.{operands, CallFits, Fits, values, ShortValues, letterOf, wordOf, wordText, policyText}
-use Rattle.lines.specs.Faults.{Kind, number, amount, board, policy, kinds, operandKinds, Counted, Placed, Good, fieldFault, First, Trouble, reported, Leads}
+use Rattle.lines.specs.Faults.{Kind, policy, kinds, operandKinds, Counted, Placed, Good, fieldFault, First, Trouble, reported}
 
 -- The parts that a line holds, in their order, and its word.
 

@@ -7,7 +7,6 @@ use crate::types::CallParts;
 use crate::types::Line;
 use entries::Letter;
 use entries::Word;
-use fields::Part;
 use fields::Reader;
 
 // A rig's fields, of which the policy may be missing.

@@ -1,9 +1,8 @@
 -- A text is read in one way.
 use mathlib.Core.Path.{_≡_, refl, sym, ap, subst, _∙_}
 use mathlib.Core.List.{List, [], _∷_}
-use Prim.Native.Nat.{ℕ, _<_, _≤_}
+use Prim.Native.Nat.{ℕ}
 use native.Mathlib.Omega.{arith}
-use lib.ListN.{length}
 use Rattle.std.specs.declared.option.Option.{Option}
 use Rattle.std.specs.declared.option.Option.the-variants.{Some, None}
 use Rattle.std.specs.declared.result.Result.{Result}
@@ -19,7 +18,7 @@ use Rattle.lines.specs.Faults.{LineRead, stageAfter}
 use Rattle.lines.proofs.Once.{says-once, line-once}
 use Rattle.faults.specs.declared.types.RigFault.{RigFault}
 use Rattle.faults.specs.declared.types.RigFault.the-variants as inRig
-use Rattle.scenario.specs.Texts.{Allowed, RigRead, LinesRead, Start, linesOfText, TextSays, long, empty, lined, TextOnce}
+use Rattle.scenario.specs.Texts.{Allowed, RigRead, LinesRead, Start, linesOfText, long, empty, lined, TextOnce}
 
 in-line : (f g : LineFault) → _≡_ {A = Result Entry LineFault} (Err f) (Err g) → inRig.Line f ≡ inRig.Line g
 in-line f g e = cc

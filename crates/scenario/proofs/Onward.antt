@@ -21,7 +21,6 @@ use Rattle.entries.specs.declared.types.Entry.{Entry}
 use Rattle.entries.specs.declared.types.Entry.the-variants as entry
 use Rattle.lines.specs.declared.types.Stage.{Stage}
 use Rattle.lines.specs.declared.types.Stage.the-variants as stage
-use Rattle.entries.specs.declared.types.Word.{Word}
 use Rattle.entries.specs.declared.types.Word.the-variants as word
 use Rattle.faults.specs.declared.types.LineFault.the-variants as inLine
 use Rattle.entries.specs.Rendering.{wordOf}

@@ -3,7 +3,7 @@ use mathlib.Core.Path.{_≡_, refl, sym, ap, _∙_}
 use mathlib.Core.List.{List, [], _∷_, _++_, map, append-assoc, append-nil}
 use Prim.Native.Nat.{ℕ, _+_, _<_, _≤_}
 use lib.ListN.{length, getD, drop}
-use Rattle.std.proofs.shelf.Lists.{at-drop-more, drop-all, map-append}
+use Rattle.std.proofs.shelf.Lists.{at-drop-more, drop-all}
 use Rattle.entries.specs.declared.types.Entry.{Entry}
 use Rattle.entries.specs.Rendering.{lineText}
 use Rattle.scenario.specs.Laws.{scenarioText}

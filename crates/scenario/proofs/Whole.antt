@@ -1,6 +1,5 @@
 -- A text says a scenario to its end exactly when it is a text of that scenario.
 use mathlib.Core.Path.{_≡_, refl, sym, ap, subst, _∙_}
-use mathlib.Core.Bool.{Bool, true, false, cond}
 use mathlib.Core.Logic.{_⊎_, inl, inr, ⊎-elim}
 use mathlib.Core.List.{List, [], _∷_, _++_, map}
 use Prim.Native.Nat.{ℕ, suc, _+_, _<_, _≤_}
@@ -24,7 +23,7 @@ use Rattle.entries.specs.declared.types.HeadCall.{HeadCall}
 use Rattle.entries.specs.declared.types.Entry.{Entry}
 use Rattle.entries.specs.declared.types.Entry.the-variants as entry
 use Rattle.lines.specs.declared.types.Stage.{Stage}
-use Rattle.entries.specs.Rendering.{lineText, Says}
+use Rattle.entries.specs.Rendering.{lineText}
 use Rattle.lines.specs.Faults.{stageAfter}
 use Rattle.lines.proofs.Texts.{says-line}
 use Rattle.faults.specs.declared.types.RigFault.{RigFault}
@@ -33,7 +32,7 @@ use Rattle.scenario.specs.declared.types.ReadError.{ReadError}
 use Rattle.scenario.specs.declared.types.ReadError.the-variants as error
 use Rattle.scenario.specs.Texts.{LinesRead, Start, TextSays, long, empty, lined}
 use Rattle.scenario.specs.Holdings.{rigLine, inOrder, Read}
-use Rattle.scenario.specs.Laws.{scenarioText, Lawful, LinesSay, TextOf, Whole, SaysExactly, RenderedSays, ending, ReadBack}
+use Rattle.scenario.specs.Laws.{scenarioText, Lawful, LinesSay, Whole, SaysExactly, RenderedSays, ending, ReadBack}
 use Rattle.scenario.specs.Steps.{EndWritten}
 
 -- how many lines and entries there are

@@ -13,8 +13,6 @@ use Rattle.entries.specs.declared.types.Setting.{Setting}
 use Rattle.entries.specs.declared.types.HeadCall.{HeadCall}
 use Rattle.entries.specs.declared.types.Entry.{Entry}
 use Rattle.entries.specs.declared.types.Entry.the-variants as entry
-use Rattle.lines.specs.declared.types.Stage.{Stage}
-use Rattle.lines.specs.declared.types.Stage.the-variants as stage
 use Rattle.faults.specs.declared.types.RigFault.{RigFault}
 use Rattle.scenario.specs.declared.types.ReadError.{ReadError}
 use Rattle.scenario.specs.declared.types.ReadError.the-variants as error

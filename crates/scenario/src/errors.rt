@@ -1,8 +1,6 @@
 ghost use mathlib.Core.Path.{_≡_};
-ghost use Rattle.faults.specs.declared.types.RigFault.the-variants as inRig;
 ghost use Rattle.scenario.specs.declared.types.ReadError.the-variants as error;
 use crate::types::ReadError;
-use faults::LineFault;
 use faults::RigFault;
 use std::alloc::AllocError;
 

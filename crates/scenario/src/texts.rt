@@ -1,12 +1,10 @@
 ghost use mathlib.Core.Path.{_≡_};
-ghost use mathlib.Core.List.{List, [], _++_, _∷_};
+ghost use mathlib.Core.List.{List};
 ghost use Prim.Native.Nat.{ℕ, _<_, _≤_};
 ghost use lib.ListN.{length};
 ghost use Rattle.std.specs.Results.{Cases};
 ghost use Rattle.std.specs.Orderings.{Decides};
-ghost use Rattle.fields.specs.Parts.{Piece};
 ghost use Rattle.lines.specs.Faults.{LineRead};
-ghost use Rattle.faults.specs.declared.types.RigFault.the-variants as inRig;
 ghost use Rattle.scenario.specs.Texts.{Allowed, RigRead, TextOnce, linesOfText};
 ghost use Rattle.scenario.specs.Holdings.{entriesOf, Read, Checked};
 ghost use Rattle.scenario.specs.Steps.{Sized, held, put, nothing, Ends, LinesCounted};

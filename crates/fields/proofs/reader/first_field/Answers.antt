@@ -1,4 +1,3 @@
-use native.Mathlib.Omega.{arith}
 use borrow.Author.Needs.{needs}
 use Rattle.fields.proofs.Cuts.{field-handed, last-field}
 use Rattle.fields.proofs.reader.first_field.Needs as need

@@ -1,7 +1,6 @@
-use mathlib.Core.Path.{_≡_, sym, _∙_}
-use mathlib.Core.List.{List, _∷_}
+use mathlib.Core.Path.{sym, _∙_}
 use borrow.Author.Needs.{needs}
-use Rattle.fields.specs.Parts.{fieldsAt, fieldsLeft, piece}
+use Rattle.fields.specs.Parts.{piece}
 use Rattle.lines.specs.Faults.{Placed}
 use Rattle.lines.proofs.Firsts.{line-misplaced, line-miscounted}
 use Rattle.lines.proofs.next.line_of.Needs as need

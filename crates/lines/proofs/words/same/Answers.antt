@@ -1,4 +1,3 @@
-use borrow.Author.Needs.{needs}
 use Rattle.std.proofs.shelf.Equals.{matches-decides}
 use Rattle.lines.proofs.words.same.Needs as need
 
