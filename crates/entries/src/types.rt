@@ -1,3 +1,5 @@
+// What the lines of a scenario say.
+
 // The board that a scenario runs on.
 #[derive(Clone, Copy)]
 pub enum BoardName {

@@ -1,3 +1,5 @@
+// Faults, from the field to the rig, and where they are.
+
 // Where a part of the text begins: its line, counted from 1, and its byte, counted from 0 over the whole text.
 #[derive(Clone, Copy)]
 pub struct Place {

@@ -1,3 +1,4 @@
+// The numbers and amounts that fields write.
 ghost use mathlib.Core.Path.{_≡_};
 ghost use Rattle.fields.specs.Numbers.{Number, Amount, Valued, Reads, FieldRead, Begins, negative, positive};
 ghost use Rattle.faults.specs.declared.types.FieldFault.the-variants.{BadNumber};

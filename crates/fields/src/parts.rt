@@ -1,3 +1,4 @@
+// Parts of a text, and the reader that hands them out.
 ghost use Prim.Native.Nat.{_+_, _<_, _^_};
 ghost use lib.ListN.{length};
 use faults::Place;

@@ -1,3 +1,4 @@
+// Handing out the lines of a text and the fields of a line.
 ghost use mathlib.Core.Path.{_≡_};
 ghost use mathlib.Core.List.{[], _∷_};
 ghost use Prim.Native.Nat.{suc, _+_, _<_, _≤_, _^_};

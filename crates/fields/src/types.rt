@@ -1,3 +1,5 @@
+// Fields by how they begin.
+
 // A field by how it begins. Each case borrows its bytes from the text.
 #[derive(Clone, Copy)]
 pub enum Field<'a> {

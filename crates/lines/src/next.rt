@@ -1,3 +1,4 @@
+// Reading the next line.
 ghost use mathlib.Core.Path.{_≡_};
 ghost use Rattle.std.specs.Orderings.{Decides};
 ghost use Rattle.fields.specs.Parts.{piece, fieldsAt, fieldsLeft, linesLeft};

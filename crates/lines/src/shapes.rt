@@ -1,3 +1,4 @@
+// The fields of a line, as many as its word wants.
 ghost use mathlib.Core.Path.{_≡_};
 ghost use Rattle.fields.specs.Parts.{fieldsLeft, linesLeft};
 ghost use Rattle.entries.specs.declared.types.Word.the-variants as word;

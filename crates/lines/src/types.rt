@@ -1,3 +1,4 @@
+// Lines on the way from text to what they say.
 use entries::Entry;
 use faults::LineFault;
 use faults::Place;

@@ -1,3 +1,4 @@
+// What the fields of a line say, read from the left.
 ghost use mathlib.Core.List.{[], _∷_};
 ghost use Rattle.fields.specs.Parts.{piece};
 ghost use Rattle.entries.specs.declared.types.Word.the-variants as word;

@@ -1,3 +1,4 @@
+// The words of the format.
 ghost use mathlib.Core.Path.{_≡_};
 ghost use Rattle.std.specs.Orderings.{Decides};
 ghost use Rattle.fields.specs.Numbers.{Reads, FieldRead};

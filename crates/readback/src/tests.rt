@@ -1,3 +1,4 @@
+// Whole and spoiled texts, with what is told of them.
 use scenario::readback;
 use std::alloc::Global;
 use std::test::*;
@@ -184,6 +185,13 @@ fn texts(rt: LibcRuntime) -> Result<(), Fail> {
     each_told(heap, &RIG_LINES)?;
     each_told(heap, &NUMBERS_AND_AMOUNTS)?;
     each_told(heap, &LATER_LINES)
+}
+
+#[test]
+fn without_memory() -> Result<(), Fail> {
+    check(matches!(scenario::check(b"rig\t1\t1\tlines\no\t0"), Ok(2)))?;
+    check(scenario::check(b"rig\t1\t1\tlines\no").is_err())?;
+    check(scenario::check(b"").is_err())
 }
 
 #[test]

@@ -1,3 +1,4 @@
+// Why a reading ended before the text did.
 ghost use mathlib.Core.Path.{_≡_};
 ghost use Rattle.scenario.specs.declared.types.ReadError.the-variants as error;
 use crate::types::ReadError;

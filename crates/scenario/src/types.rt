@@ -1,3 +1,4 @@
+// A scenario as it is held.
 use entries::HeadCall;
 use entries::RigLine;
 use entries::Setting;
