@@ -1,13 +1,13 @@
 // A whole scenario: what its text says, line by line, up to the first fault.
-mod back;
 mod errors;
+mod printed;
 mod render;
 mod texts;
 mod types;
 
-pub use back::readback;
 pub use errors::ReadFromAlloc;
 pub use errors::ReadFromRig;
+pub use printed::readback;
 pub use texts::check;
 pub use texts::read;
 pub use types::ReadError;

@@ -2,7 +2,7 @@ use Rattle.std.proofs.shelf.Results.{err-from-errBy}
 use Rattle.scenario.specs.Holdings.{entriesOf}
 use Rattle.scenario.proofs.Once.{text-once}
 use Rattle.scenario.proofs.Whole.{says-exactly, few-held, told-back}
-use Rattle.scenario.proofs.back.readback.Needs as need
+use Rattle.scenario.proofs.printed.readback.Needs as need
 
 pub returns-in-Break-out : need.returns-in-Break-out
 returns-in-Break-out c =
