@@ -13,7 +13,6 @@ use Rattle.std.specs.declared.option.Option.{Option}
 use Rattle.std.specs.declared.option.Option.the-variants.{Some, None}
 use Rattle.faults.specs.declared.types.FieldFault.{FieldFault}
 use Rattle.fields.specs.Parts.{Piece, fieldsAt}
-use Rattle.faults.specs.declared.types.LineFault.{LineFault}
 use Rattle.faults.specs.declared.types.LineFault.the-variants as inLine
 use Rattle.lines.specs.declared.types.CallParts.{CallParts}
 use Rattle.lines.specs.declared.types.CallParts.the-variants as calls
@@ -25,8 +24,8 @@ use Rattle.lines.specs.declared.types.Line.{Line}
 use Rattle.lines.specs.declared.types.Line.the-variants as line
 use Rattle.lines.specs.declared.types.Stage.{Stage}
 use Rattle.entries.specs.Rendering.{wordText, letterText}
-use Rattle.lines.specs.Faults.{Kind, kinds, operandKinds, least, Counted, Placed, Good, Trouble, unknown, misplaced, miscounted, bad, Leads, Wrong, order, First, fieldFault, reported}
-use Rattle.lines.specs.Steps.{lineParts, lineWord, operandParts, partsLetter, FirstBad}
+use Rattle.lines.specs.Faults.{Kind, kinds, operandKinds, least, Counted, Placed, Good, Trouble, unknown, misplaced, miscounted, bad, Leads, Wrong, order, First, fieldFault}
+use Rattle.lines.specs.Steps.{lineParts, lineWord, operandParts, partsLetter, FirstBad, MadeOf, Troubled}
 
 -- a text is that of one word at most
 
@@ -57,6 +56,11 @@ word-back (word.Call l) = letter-back l
 
 pub same-word : (v w : Word) → wordText v ≡ wordText w → v ≡ w
 same-word v w e = sym (word-back v) ∙ ap (λ l. wordBy (mark l)) e ∙ word-back w
+
+-- a line has one word at most
+pub one-leads : (fs : List Piece) (v w : Word) → Leads fs v → Leads fs w → v ≡ w
+one-leads [] v w p q = absurd p
+one-leads (f ∷ fs) v w p q = same-word v w (sym p ∙ q)
 
 pub some-eq : {X : Type 0} (x y : X) → _≡_ {A = Option X} (Some x) (Some y) → x ≡ y
 some-eq x y e = cc
@@ -100,7 +104,7 @@ bad-at (κ ∷ ks) (f ∷ fs) fault (inr (good, rest)) =
 -- of a line with the fields f and gs, whose word is w
 module _ (s : Stage) (f : Piece) (gs : List Piece) (w : Word) (leads : f .1 ≡ wordText w) where
   pub one-word : (v : Word) → Leads (f ∷ gs) v → v ≡ w
-  one-word v l = same-word v w (sym l ∙ leads)
+  one-word v l = one-leads (f ∷ gs) v w l leads
 
   misplaced-here : (Placed s w → ⊥) → First s (f ∷ gs) misplaced
   misplaced-here h = record { wrong = (w, leads, h); earliest = least }
@@ -162,9 +166,6 @@ shape-counted (line.Call h k) = let e = operands-counted k in (omega arith, omeg
 
 -- the same of the fields of a line as the code has them
 
-abbrev Troubled : Stage → Piece → LineFault → Type 0
-Troubled s l fault = (t : Trouble) × First s (fieldsAt l) t × (fault ≡ reported (l .0) t)
-
 module _ (s : Stage) (l : Piece) (f : Piece) (gs : List Piece) (w : Word) (fields : fieldsAt l ≡ f ∷ gs) (leads : f .1 ≡ wordText w) where
   pub line-misplaced : (Placed s w → ⊥) → Troubled s l (inLine.Misplaced (l .0))
   line-misplaced off = let P : List Piece → Type 0 = λ x. First s x misplaced in (misplaced, subst P (sym fields) (misplaced-here s f gs w leads off), refl)
@@ -172,7 +173,7 @@ module _ (s : Stage) (l : Piece) (f : Piece) (gs : List Piece) (w : Word) (field
   pub line-miscounted : Placed s w → (Counted w (length gs) → ⊥) → Troubled s l (inLine.Miscounted (l .0))
   line-miscounted here off = let P : List Piece → Type 0 = λ x. First s x miscounted in (miscounted, subst P (sym fields) (miscounted-here s f gs w leads here off), refl)
 
-pub line-bad : (s : Stage) (at : Piece) (l : Line) (fault : FieldFault) → ((f : Piece) × (fieldsAt at ≡ f ∷ lineParts l) × (f .1 ≡ wordText (lineWord l))) → Placed s (lineWord l) → FirstBad (kinds (lineWord l)) (lineParts l) fault → Troubled s at (inLine.Field fault)
+pub line-bad : (s : Stage) (at : Piece) (l : Line) (fault : FieldFault) → MadeOf at l → Placed s (lineWord l) → FirstBad (kinds (lineWord l)) (lineParts l) fault → Troubled s at (inLine.Field fault)
 line-bad s at l fault (f, fields, leads) here bads =
     let b = bad-at (kinds (lineWord l)) (lineParts l) fault bads in
     let P : List Piece → Type 0 = λ x. First s x (bad (b .kind) (b .k) (b .f)) in (

@@ -32,9 +32,10 @@ use Rattle.entries.specs.declared.types.Word.{Word}
 use Rattle.entries.specs.declared.types.Word.the-variants as word
 use Rattle.lines.specs.declared.types.Stage.{Stage}
 use Rattle.entries.specs.Rendering.{Says, wordOf, letterOf, boardText, policyText, operands, CallFits, Fits}
-use Rattle.lines.specs.Faults.{Trouble, unknown, misplaced, miscounted, bad, Leads, Wrong, kinds, order, First, reported, LineOnce}
-use Rattle.lines.proofs.Firsts.{some-eq, same-word}
-use Rattle.lines.proofs.Texts.{Values, says-fields}
+use Rattle.lines.specs.Faults.{Trouble, unknown, misplaced, miscounted, bad, Wrong, kinds, order, First, reported, LineOnce}
+use Rattle.lines.proofs.Firsts.{some-eq, same-word, one-leads}
+use Rattle.lines.specs.Steps.{Values}
+use Rattle.lines.proofs.Texts.{says-fields}
 
 -- the value that a field writes, got back from its bytes
 
@@ -134,10 +135,6 @@ says-once bytes d e p q =
     let same = sym (x .1) ∙ y .1 in
     let w : wordOf d ≡ wordOf e = same-word (wordOf d) (wordOf e) (cons-head _ _ _ _ same) in
     sym (values-back d (x .0) (p .0) (x .2)) ∙ ap (λ v. back v (x .0)) w ∙ ap (back (wordOf e)) (cons-tail _ _ _ _ same) ∙ values-back e (y .0) (q .0) (y .2)
-
-one-leads : (fs : List Piece) (v w : Word) → Leads fs v → Leads fs w → v ≡ w
-one-leads [] v w p q = absurd p
-one-leads (f ∷ fs) v w p q = same-word v w (sym p ∙ q)
 
 module _ (s : Stage) (l : Piece) where
   once : (t u : Trouble) → order t ≡ order u → Wrong s (fieldsAt l) t → Wrong s (fieldsAt l) u → reported (l .0) t ≡ reported (l .0) u

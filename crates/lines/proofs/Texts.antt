@@ -23,14 +23,10 @@ use Rattle.lines.specs.declared.types.Line.{Line}
 use Rattle.lines.specs.declared.types.Stage.{Stage}
 use Rattle.faults.specs.declared.types.LineFault.{LineFault}
 use Rattle.entries.specs.Rendering.{wordText, letterText, wordOf, letterOf, operands, values, ShortValues, CallFits, Fits, joined, Says}
-use Rattle.lines.specs.Faults.{Kind, kinds, operandKinds, Counted, Placed, Good, Trouble, unknown, misplaced, miscounted, bad, Wrong, First, reported, Refused}
-use Rattle.lines.specs.Steps.{lineParts, lineWord, Valued}
+use Rattle.lines.specs.Faults.{Kind, kinds, operandKinds, Counted, Placed, Good, Trouble, unknown, misplaced, miscounted, bad, Wrong, Refused}
+use Rattle.lines.specs.Steps.{lineParts, lineWord, Valued, Values, MadeOf, Troubled}
 use Rattle.lines.proofs.Solid.{Solid, solid-word, solid-values, solid-short, all-without, joined-without}
 use Rattle.lines.proofs.Firsts.{some-eq, one-word, is-here, is-counted}
-
--- the fields after the word are the entry's
-abbrev pub Values : Entry → List (List ℕ) → Type 0
-Values e fs = (fs ≡ values e) ⊎ ShortValues e fs
 
 solid-fields : (e : Entry) (fs : List (List ℕ)) → Fits e → Values e fs → All Solid (wordText (wordOf e) ∷ fs)
 solid-fields e fs u (inl h) = (solid-word (wordOf e), rw h (solid-values e u))
@@ -68,7 +64,7 @@ says-fields bytes e (u, inr (fs, s, h)) =
     (fs, ap (split 9) h ∙ split-joined 9 (wordText (wordOf e) ∷ fs) (omega arith) (all-without 9 (wordText (wordOf e) ∷ fs) (omega arith) (solid-fields e fs u (inr s))), inr s)
 
 -- the fields of a line, and what they say
-pub fields-said : (at : Piece) (l : Line) (e : Entry) → ((f : Piece) × (fieldsAt at ≡ f ∷ lineParts l) × (f .1 ≡ wordText (lineWord l))) → wordOf e ≡ lineWord l → Valued e (lineParts l) → Says (at .1) e
+pub fields-said : (at : Piece) (l : Line) (e : Entry) → MadeOf at l → wordOf e ≡ lineWord l → Valued e (lineParts l) → Says (at .1) e
 fields-said (p, bytes) l e (f, fields, leads) word (u, h) =
     let fs : List (List ℕ) = bytesOf (lineParts l) in
     let parts : split 9 bytes ≡ wordText (wordOf e) ∷ fs = sym (bytes-of-fields p (split 9 bytes)) ∙ ap bytesOf fields ∙ ap (λ x. x ∷ fs) (leads ∙ ap wordText (sym word)) in
@@ -157,8 +153,8 @@ said-or-wrong s (p, bytes) e t said here wrong =
 
 -- what a line is read as
 
-pub refused : (s : Stage) (l : Piece) (f : LineFault) → ((t : Trouble) × First s (fieldsAt l) t × (f ≡ reported (l .0) t)) → Refused s l f
+pub refused : (s : Stage) (l : Piece) (f : LineFault) → Troubled s l f → Refused s l f
 refused s l f (t, first, is) = record { trouble = t; first = first; is = is; nothing = λ e said here. said-or-wrong s l e t said here (first .wrong) }
 
-pub line-said : (s : Stage) (at : Piece) (l : Line) (e : Entry) → (((f : Piece) × (fieldsAt at ≡ f ∷ lineParts l) × (f .1 ≡ wordText (lineWord l))) × Placed s (lineWord l)) → (wordOf e ≡ lineWord l) × Valued e (lineParts l) → Says (at .1) e × Placed s (wordOf e)
+pub line-said : (s : Stage) (at : Piece) (l : Line) (e : Entry) → MadeOf at l × Placed s (lineWord l) → (wordOf e ≡ lineWord l) × Valued e (lineParts l) → Says (at .1) e × Placed s (wordOf e)
 line-said s at l e (fields, here) (word, valued) = let P : Word → Type 0 = λ w. Placed s w in (fields-said at l e fields word valued, subst P (sym word) here)

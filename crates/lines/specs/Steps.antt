@@ -2,6 +2,7 @@
 use mathlib.Core.Path.{_≡_}
 use mathlib.Core.Logic.{_⊎_}
 use mathlib.Core.List.{List, [], _∷_}
+use Prim.Native.Nat.{ℕ}
 use lib.ListN.{length}
 use Rattle.std.specs.declared.option.Option.{Option}
 use Rattle.std.specs.declared.option.Option.the-variants.{Some, None}
@@ -72,10 +73,18 @@ abbrev pub ShapedCall : Letter → List Piece → Option CallParts → Type 0
 ShapedCall l fields None = length fields ≡ length (operandKinds l) → ⊥
 ShapedCall l fields (Some k) = (partsLetter k ≡ l) × (operandParts k ≡ fields)
 
+-- the fields of the line at this piece are its word and its parts
+abbrev pub MadeOf : Piece → Line → Type 0
+MadeOf at l = (f : Piece) × (fieldsAt at ≡ f ∷ lineParts l) × (f .1 ≡ wordText (lineWord l))
+
+-- the fault is what is reported of the line's first trouble
+abbrev pub Troubled : Stage → Piece → LineFault → Type 0
+Troubled s at f = (t : Trouble) × First s (fieldsAt at) t × (f ≡ reported (at .0) t)
+
 -- a line with its word in place and its fields counted, or the first of those three troubles
 abbrev pub LineShaped : Stage → Piece → Result Line LineFault → Type 0
-LineShaped s at (Ok l) = ((f : Piece) × (fieldsAt at ≡ f ∷ lineParts l) × (f .1 ≡ wordText (lineWord l))) × Placed s (lineWord l)
-LineShaped s at (Err f) = (t : Trouble) × First s (fieldsAt at) t × (f ≡ reported (at .0) t)
+LineShaped s at (Ok l) = MadeOf at l × Placed s (lineWord l)
+LineShaped s at (Err f) = Troubled s at f
 
 -- the first bad one of the fields, from the left
 abbrev pub FirstBad : List Kind → List Piece → FieldFault → Type 0
@@ -83,8 +92,12 @@ FirstBad [] fields fault = ⊥
 FirstBad (k ∷ ks) [] fault = ⊥
 FirstBad (k ∷ ks) (f ∷ fields) fault = ((fault ≡ fieldFault k (f .0)) × (Good k (f .1) → ⊥)) ⊎ (Good k (f .1) × FirstBad ks fields fault)
 
+-- the fields after the word are the entry's, all of them or without a plain policy
+abbrev pub Values : Entry → List (List ℕ) → Type 0
+Values e fields = (fields ≡ values e) ⊎ ShortValues e fields
+
 abbrev pub Valued : Entry → List Piece → Type 0
-Valued e fields = Fits e × ((bytesOf fields ≡ values e) ⊎ ShortValues e (bytesOf fields))
+Valued e fields = Fits e × Values e (bytesOf fields)
 
 -- what the fields after a word are read as
 abbrev pub FieldsRead : Word → List Piece → Result Entry FieldFault → Type 0
