@@ -1,4 +1,6 @@
 // What the lines of a scenario say, and the text of each.
+#![tactic(auto)]
+
 mod render;
 mod types;
 

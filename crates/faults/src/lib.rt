@@ -1,4 +1,6 @@
 // What can be wrong with a scenario, layer by layer, where it is, and how it is printed.
+#![tactic(auto)]
+
 mod nesting;
 mod reports;
 mod types;

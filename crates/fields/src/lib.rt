@@ -1,4 +1,6 @@
 // A text as lines and fields, each with the place where it begins, and the numbers and amounts that fields write.
+#![tactic(auto)]
+
 mod numbers;
 mod parts;
 mod reader;

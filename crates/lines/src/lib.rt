@@ -1,4 +1,6 @@
 // The lines of a scenario: what each says, or what is wrong with it.
+#![tactic(auto)]
+
 mod next;
 mod shapes;
 mod types;

@@ -1,4 +1,6 @@
 // What a rig is built from: words, boards and retry policies, each as a trait with its meaning.
+#![tactic(auto)]
+
 mod boards;
 mod causes;
 mod policies;

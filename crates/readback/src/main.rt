@@ -1,4 +1,6 @@
 // Prints what a scenario on standard input says, line by line, up to its end or its first fault.
+#![tactic(auto)]
+
 use scenario::readback;
 use std::io;
 use std::io::Read;

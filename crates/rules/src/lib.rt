@@ -1,4 +1,6 @@
 // The rule book of the rig: its plain data, what each call answers and leaves, and the laws that hold of every run.
+#![tactic(auto)]
+
 mod numbers;
 mod theorems;
 mod types;

@@ -1,4 +1,6 @@
 // A whole scenario: what its text says, line by line, up to the first fault.
+#![tactic(auto)]
+
 mod errors;
 mod printed;
 mod render;
