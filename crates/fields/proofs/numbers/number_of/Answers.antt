@@ -11,5 +11,5 @@ returns-in-48 c = zero-said c.args.bytes.now (search rules) (search rules)
 pub returns-in-48-2 : goal.returns-in-48-2
 returns-in-48-2 c = none-lead c.args.bytes.now (search rules) (search rules)
 
-pub returns-in-default : goal.returns-in-default
-returns-in-default c = plain c.args.bytes.now _ (search rules) (search rules) c.digits-value.ensures
+pub returns-in_default : goal.returns-in_default
+returns-in_default c = plain c.args.bytes.now _ (search rules) (search rules) c.digits_value.ensures

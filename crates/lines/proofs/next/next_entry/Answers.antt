@@ -6,4 +6,4 @@ pub returns-in-err-line : goal.returns-in-err-line
 returns-in-err-line c = record { next = rw c.from-residual.ensures c.in-err-line.ensures.hands; once = line-once }
 
 pub returns : goal.returns
-returns c = record { next = (c.in-ok-line.line.bytes.now, search rules, c.line-entry-said.ensures.read); once = line-once }
+returns c = record { next = (c.in-ok-line.line.bytes.now, search rules, c.line_entry-said.ensures.read); once = line-once }

@@ -4,6 +4,6 @@ use Rattle.rules.proofs.theorems.bounds_stand.Goals as goal
 
 pub returns : goal.returns
 returns g c = record {
-  set-up = bounds-at-set-up;
+  set_up = bounds-at-set-up;
   calls = bounds-kept (kit_of g.W.Word.alike g.B.Board.lined g.B.Board.fitting g.P.Policy.answer g.P.Policy.patient c.args.board.now c.args.policy.now);
 }

@@ -9,7 +9,7 @@ returns-in-err-out c =
     let p = err_from_is_err_and c.from-residual.result c.from-residual.ensures.1 in
     record { says = rw p.1 tt; once = text-once; exact = says-exactly }
 
-pub write-end-requires : goal.write-end-requires
+pub write-end-requires : goal.write_end-requires
 write-end-requires c = few-held c.args.text.now (entries_of c.read-scenario.result.scenario) c.read-scenario.result.end c.read-scenario.ensures.says
 
 pub returns-in-Ok : goal.returns-in-Ok

@@ -8,4 +8,4 @@ returns-in-err-sized c =
     rw (p.1, p.2) (text-unsized-counted c.args.text.now _ c.in-err-sized.ensures)
 
 pub returns : goal.returns
-returns c = text-counted c.args.text.now c.count-lines.result c.in-ok-sized.ensures c.count-lines.ensures
+returns c = text-counted c.args.text.now c.count_lines.result c.in-ok-sized.ensures c.count_lines.ensures

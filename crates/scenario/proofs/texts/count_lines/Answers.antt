@@ -16,4 +16,4 @@ returns-in-err-said c =
 pub loop-line-preserved : goal.loop-line-preserved
 loop-line-preserved c =
     let next = c.in-Some.ensures.next in
-    counting-next (lines_of_text c.args.text.now) (lines_left c.loop-line.reader) (lines_left c.next-entry.new.reader) c.loop-line.stage c.after-stage.result c.loop-line.count _ _ c.loop-line.invariant next.1 (c.in-ok-said.ensures next.0 next.2) c.after-stage.ensures
+    counting-next (lines_of_text c.args.text.now) (lines_left c.loop-line.reader) (lines_left c.next_entry.new.reader) c.loop-line.stage c.after-stage.result c.loop-line.count _ _ c.loop-line.invariant next.1 (c.in-ok-said.ensures next.0 next.2) c.after-stage.ensures

@@ -19,4 +19,4 @@ returns-in-err-add c =
 pub loop-line-preserved : goal.loop-line-preserved
 loop-line-preserved c =
     let next = c.in-Some.ensures.next in
-    come-next (lines_of_text c.args.text.now) (lines_left c.loop-line.reader) (lines_left c.next-entry.new.reader) c.loop-line.stage (held c.loop-line.scenario) _ c.loop-line.invariant next.1 _ (held c.add.new.self) c.after-stage.result (c.in-ok-said.ensures next.0 next.2) c.in-ok-add.ensures c.after-stage.ensures
+    come-next (lines_of_text c.args.text.now) (lines_left c.loop-line.reader) (lines_left c.next_entry.new.reader) c.loop-line.stage (held c.loop-line.scenario) _ c.loop-line.invariant next.1 _ (held c.add.new.self) c.after-stage.result (c.in-ok-said.ensures next.0 next.2) c.in-ok-add.ensures c.after-stage.ensures

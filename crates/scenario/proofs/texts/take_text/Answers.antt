@@ -8,4 +8,4 @@ returns-in-err-sized c =
     rw (p.1, p.2) (text-unsized c.args.text.now _ _ c.requires c.in-err-sized.ensures)
 
 pub returns : goal.returns
-returns c = text-ends c.args.text.now _ c.take-lines.result c.in-ok-sized.ensures c.take-lines.ensures
+returns c = text-ends c.args.text.now _ c.take_lines.result c.in-ok-sized.ensures c.take_lines.ensures
