@@ -8,7 +8,6 @@ ghost use Rattle.scenario.specs.Steps.{EndWritten};
 use crate::texts::read;
 use crate::types::{ReadError, Reading, Scenario};
 use std::alloc::{AllocError, Global};
-use std::fmt;
 
 impl Scenario {
     // How many lines the scenario has.
@@ -24,7 +23,7 @@ impl Scenario {
     }
 
     // Adds the line that tells how the reading ended.
-    fn write_end(&self, out: &mut String, end: Result<(), ReadError>) -> fmt::Result
+    fn write_end(&self, out: &mut String, end: Result<(), ReadError>) -> Result<(), AllocError>
         requires { end ≡ Ok tt → length (entries_of self.now) ≤ 65536 }
         ensures { OnOk result (EndWritten (entries_of self.now) end (string_bytes out.old) (string_bytes out.new)) }
     {
@@ -37,7 +36,7 @@ impl Scenario {
                 let report = fault.report();
                 writeln!(out, "{report}")
             }
-            Err(ReadError::NoMemory) => Err(fmt::Error),
+            Err(ReadError::NoMemory) => Err(AllocError),
         }
     }
 }
@@ -51,8 +50,6 @@ pub fn readback(heap: Global, text: &[u8]) -> Result<String, AllocError>
 {
     let Reading { scenario, end } = read(heap, text);
     let mut out = scenario.render(heap)?;
-    match scenario.write_end(&mut out, end) {
-        Ok(()) => Ok(out),
-        Err(_) => Err(AllocError),
-    }
+    scenario.write_end(&mut out, end)?;
+    Ok(out)
 }

@@ -8,7 +8,6 @@ ghost use Rattle.scenario.specs.Laws.{scenario_text, RenderedSays};
 use crate::types::Scenario;
 use entries::{Entry, HeadCall, RigLine, Setting};
 use std::alloc::{AllocError, Global};
-use std::fmt;
 
 // What is listed in a scenario, as what a line says.
 trait Listed: Copy {
@@ -35,14 +34,14 @@ impl Listed for HeadCall {
 }
 
 // Adds a line.
-fn write_line(out: &mut String, said: Entry) -> fmt::Result
+fn write_line(out: &mut String, said: Entry) -> Result<(), AllocError>
     ensures { OnOk result (string_bytes out.new ≡ string_bytes out.old ++ scenario_text (said ∷ [])) }
 {
     writeln!(out, "{said}")
 }
 
 // Adds a line for each of a list.
-fn write_lines<T: Listed>(out: &mut String, items: &[T]) -> fmt::Result
+fn write_lines<T: Listed>(out: &mut String, items: &[T]) -> Result<(), AllocError>
     ensures { OnOk result (string_bytes out.new ≡ string_bytes out.old ++ scenario_text (map T.Listed.said items.now)) }
 {
     for item in items {
@@ -52,7 +51,7 @@ fn write_lines<T: Listed>(out: &mut String, items: &[T]) -> fmt::Result
 }
 
 // Adds the rig line, if there is one.
-fn write_rig(out: &mut String, rig: Option<RigLine>) -> fmt::Result
+fn write_rig(out: &mut String, rig: Option<RigLine>) -> Result<(), AllocError>
     ensures { OnOk result (string_bytes out.new ≡ string_bytes out.old ++ scenario_text (rig_line rig)) }
 {
     match rig {
@@ -63,7 +62,7 @@ fn write_rig(out: &mut String, rig: Option<RigLine>) -> fmt::Result
 
 impl Scenario {
     // Adds all lines, in their order.
-    fn write_text(&self, out: &mut String) -> fmt::Result
+    fn write_text(&self, out: &mut String) -> Result<(), AllocError>
         ensures { OnOk result (string_bytes out.new ≡ string_bytes out.old ++ scenario_text (entries_of self.now)) }
     {
         write_rig(out, self.rig)?;
@@ -78,9 +77,7 @@ impl Scenario {
         ensures inverse { RenderedSays }
     {
         let mut out = String::new(heap);
-        match self.write_text(&mut out) {
-            Ok(()) => Ok(out),
-            Err(_) => Err(AllocError),
-        }
+        self.write_text(&mut out)?;
+        Ok(out)
     }
 }

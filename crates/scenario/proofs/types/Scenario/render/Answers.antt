@@ -1,9 +1,8 @@
 use Rattle.scenario.proofs.Whole.{rendered-says}
-use Rattle.std.proofs.Common.{rules}
 use Rattle.scenario.proofs.types.Scenario.render.Goals as goal
 
-pub returns-in-Ok : goal.returns-in-Ok
-returns-in-Ok c = record { written = search rules; inverse = rendered-says }
+pub returns-in_err-write_text-clause-inverse : goal.returns-in_err-write_text-clause-inverse
+returns-in_err-write_text-clause-inverse c = rendered-says
 
-pub returns-in-Err : goal.returns-in-Err
-returns-in-Err c = record { written = tt; inverse = rendered-says }
+pub returns-clause-inverse : goal.returns-clause-inverse
+returns-clause-inverse c = rendered-says
