@@ -1,6 +1,6 @@
 -- What is known once no refusal is found.
 use Rattle.std.proofs.Common.{◌≡◌, ◌*◌, ◌<◌, Bool, true, false, ◌&&◌, eqb, List, [], ◌∷◌, length, Some, None, Option, sym, refl}
-use Rattle.std.specs.List.{AllByRecursion as All}
+use Rattle.std.specs.List.{AllByRecursion}
 use Rattle.std.proofs.lemmas.Bool.{not-false, eqb-true, leb-false, and_parts}
 use Rattle.rules.specs.declared.types.Call.{Call}
 use Rattle.rules.specs.declared.types.Caller.{Caller}
@@ -13,7 +13,7 @@ when-none : (b : Bool) (e : Refusal) → when b e ≡ None → b ≡ false
 when-none true e q = none-some e (sym q)
 when-none false e q = refl
 
-first-none : (rows : List (Option Refusal)) → first rows ≡ None → All (λ r. r ≡ None) rows
+first-none : (rows : List (Option Refusal)) → first rows ≡ None → AllByRecursion (λ r. r ≡ None) rows
 first-none [] e = tt
 first-none (None ∷ rows) e = (refl, first-none rows e)
 first-none (Some x ∷ rows) e = none-some x (sym e)

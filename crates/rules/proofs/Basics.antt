@@ -1,6 +1,6 @@
 -- What the rules' proof needs of lists, tests and options.
 use Rattle.std.proofs.Common.{◌≡◌, ℕ, zero, suc, ◌+◌, ◌-◌, Bool, true, false, ◌||◌, ◌≢◌, ◌⊎◌, List, [], ◌∷◌, ◌++◌, map, set, Some, None, Option, sym, refl, ap, ◌∙◌, subst, inl, inr, ⊎_elim, arith}
-use Rattle.std.specs.List.{slice_get, AllByRecursion as All}
+use Rattle.std.specs.List.{slice_get, AllByRecursion}
 use Rattle.std.proofs.lemmas.Bool.{cases_eq, or_parts, false≢true}
 use Rattle.rules.specs.Logs.{any}
 
@@ -40,7 +40,7 @@ module _ {X : Type 0} where
   any_append p (x ∷ xs) ys = by-test (p x) (λ b. (b || any p (xs ++ ys)) ≡ ((b || any p xs) || any p ys)) (λ _. refl) (λ _. any_append p xs ys)
 
   -- no element passes
-  pub any_none : (p : X → Bool) (xs : List X) → any p xs ≡ false → All (λ x. p x ≡ false) xs
+  pub any_none : (p : X → Bool) (xs : List X) → any p xs ≡ false → AllByRecursion (λ x. p x ≡ false) xs
   any_none p [] e = tt
   any_none p (x ∷ xs) e = let h = or_parts (p x) (any p xs) e in (h.0, any_none p xs h.1)
 
@@ -54,15 +54,15 @@ module _ {X : Type 0} where
   nth-map-some f (z ∷ xs) zero x e = ap (λ (y : X). Some (f y)) (some_same z x e)
   nth-map-some f (z ∷ xs) (suc k) x e = nth-map-some f xs k x e
 
-  pub all_both : (P Q R : X → Type 0) → ((x : X) → P x → Q x → R x) → (xs : List X) → All P xs → All Q xs → All R xs
+  pub all_both : (P Q R : X → Type 0) → ((x : X) → P x → Q x → R x) → (xs : List X) → AllByRecursion P xs → AllByRecursion Q xs → AllByRecursion R xs
   all_both P Q R f [] p q = tt
   all_both P Q R f (x ∷ xs) p q = (f x p.0 q.0, all_both P Q R f xs p.1 q.1)
 
-  pub all-append-left : (P : X → Type 0) (xs ys : List X) → All P (xs ++ ys) → All P xs
+  pub all-append-left : (P : X → Type 0) (xs ys : List X) → AllByRecursion P (xs ++ ys) → AllByRecursion P xs
   all-append-left P [] ys h = tt
   all-append-left P (x ∷ xs) ys h = (h.0, all-append-left P xs ys h.1)
 
-  pub all-append-right : (P : X → Type 0) (xs ys : List X) → All P (xs ++ ys) → All P ys
+  pub all-append-right : (P : X → Type 0) (xs ys : List X) → AllByRecursion P (xs ++ ys) → AllByRecursion P ys
   all-append-right P [] ys h = h
   all-append-right P (x ∷ xs) ys h = all-append-right P xs ys h.1
 

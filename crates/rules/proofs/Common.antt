@@ -7,7 +7,7 @@ use Prim.Native.Nat.{ℕ, ◌+◌, ◌-◌, ◌≤◌, ◌<◌}
 use native.Mathlib.Omega.{arith}
 use lib.Dec.{eqb}
 use lib.ListN.{length, set, take, drop, take-append-drop}
-use Rattle.std.specs.List.{slice_get, filter, AllByRecursion as All}
+use Rattle.std.specs.List.{slice_get, filter, AllByRecursion}
 use Rattle.std.proofs.lemmas.Bool.{eqb-true, eqb-false, ne_eqb, cond-false, or_cases, or_parts, and_parts, cases_lt}
 use Rattle.std.proofs.lemmas.List.{take_all, drop-drop}
 use Rattle.std.proofs.ByRecursion.{All-drop}
@@ -93,9 +93,9 @@ module _ {W : Type 0} (kit : Kit W) (law : Lawful kit) (start : List W) (b : Ben
       let p = s.p in
       let since = (l.pages h).since in
       let going = o.going (running-going me.head.state (software-running me.head.state software)) in
-      let others : All (λ x. eqb h x.head ≡ false) (drop p l.closes) =
-      subst (λ i. All (λ x. eqb h x.head ≡ false) (drop i l.closes)) (omega (arith, s.since))
-      (subst (All (λ x. eqb h x.head ≡ false)) (drop-drop (p - since) since l.closes) (All-drop (λ x. eqb h x.head ≡ false) (p - since) (drop since l.closes) going)) in
+      let others : AllByRecursion (λ x. eqb h x.head ≡ false) (drop p l.closes) =
+      subst (λ i. AllByRecursion (λ x. eqb h x.head ≡ false) (drop i l.closes)) (omega (arith, s.since))
+      (subst (AllByRecursion (λ x. eqb h x.head ≡ false)) (drop-drop (p - since) since l.closes) (All-drop (λ x. eqb h x.head ≡ false) (p - since) (drop since l.closes) going)) in
       let one : 1 ≤ length (filter (is_other h) (drop p l.closes)) =
       ⊎_elim (λ (lt : 0 < length (filter (is_other h) (drop p l.closes))). lt)
       (λ (le : length (filter (is_other h) (drop p l.closes)) ≤ 0).

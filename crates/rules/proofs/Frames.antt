@@ -1,6 +1,6 @@
 -- How the invariant passes over what a call does to the other heads, and over growing closes.
 use Rattle.std.proofs.Common.{◌≡◌, ℕ, ◌+◌, ◌-◌, ◌≤◌, Bool, true, false, cond, ◌||◌, eqb, ◌⊎◌, List, ◌++◌, map, length, drop, set, Some, sym, refl, ap, ◌∙◌, subst, inl, inr, ⊎_elim, arith}
-use Rattle.std.specs.List.{slice_get, AllByRecursion as All}
+use Rattle.std.specs.List.{slice_get, AllByRecursion}
 use Rattle.std.proofs.lemmas.Bool.{cases_eq, or_left, and_parts, cond-true}
 use Rattle.std.proofs.lemmas.List.{take-append-le, drop-append-le, length-append}
 use Rattle.std.proofs.ByRecursion.{All-append, All-weaker}
@@ -104,7 +104,7 @@ module _ {W : Type 0} (patience : ℕ) (start : List W) (S C : ℕ) (cells : Lis
 
   -- more closes, of other heads, and other cells
   pub head-moved : (S' C' : ℕ) (cells' : List W) (new : List (Commit W)) (k : ℕ) (o : Seat W) (page : Page W)
-      → All (λ s. eqb k s.head ≡ false) new → S ≤ S' → C ≤ C'
+      → AllByRecursion (λ s. eqb k s.head ≡ false) new → S ≤ S' → C ≤ C'
       → (is_hardware o.head.state ≡ true → Agrees cells' o.reads)
       → (SoftwareOk patience start S C cells closes k o page → o.head.snapshot.sequence ≡ S' → o.head.snapshot.commits ≡ C' → Agrees cells' o.reads)
       → HeadOk patience start S C cells closes k o page → HeadOk patience start S' C' cells' (closes ++ new) k o page
@@ -116,7 +116,7 @@ module _ {W : Type 0} (patience : ℕ) (start : List W) (S C : ℕ) (cells : Lis
         since = omega (arith, ok.since);
         mark = ok.mark;
         going =
-            λ e. subst (λ cs. All (λ s. eqb k s.head ≡ false) cs) (sym (drop-append-le page.since closes new ok.since))
+            λ e. subst (λ cs. AllByRecursion (λ s. eqb k s.head ≡ false) cs) (sym (drop-append-le page.since closes new ok.since))
             (All-append (λ s. eqb k s.head ≡ false) (drop page.since closes) new (ok.going e) apart);
         live = ok.live;
         hardware = λ e. let h = ok.hardware e in record { valid = hardware e; under = h.under; budget = omega (arith, h.budget) };
@@ -184,9 +184,9 @@ module _ {W : Type 0} (kit : Kit W) (start : List W) (m : Rig W) (l : History W)
       → (is_odd m.sequence ≡ true → is_hardware me'.head.state ≡ false)
       → ((k : ℕ) (it : Seat W) → slice_get m.heads k ≡ Some it → (k ≡ h → ⊥) → is_hardware me'.head.state ≡ true → is_hardware it.head.state ≡ true
       → is_hardware (f it).head.state ≡ true → Clear kit me' it × Clear kit it me')
-      → All (Explained start l) past
+      → AllByRecursion (Explained start l) past
       → Explained start l (pages h).attempt
-      → All (Bounded start l kit.patience) ended
+      → AllByRecursion (Bounded start l kit.patience) ended
       → ((pages h).attempts ≤ most_attempts kit.patience (closes_of_others l.closes h (pages h).since (length l.closes)))
       → Inv kit start (record { heads = set (map f m.heads) h me'; sequence = m.sequence; commits = m.commits; cells = m.cells })
       (record { closes = l.closes; pages = pages; past = past; ended = ended })
@@ -240,7 +240,7 @@ module _ {W : Type 0} (kit : Kit W) (start : List W) (m : Rig W) (l : History W)
       → ((k : ℕ) → (k ≡ h → ⊥) → pages k ≡ l.pages k)
       → pages h ≡ page
       → closes ≡ l.closes ++ new
-      → ((k : ℕ) → (k ≡ h → ⊥) → All (λ s. eqb k s.head ≡ false) new)
+      → ((k : ℕ) → (k ≡ h → ⊥) → AllByRecursion (λ s. eqb k s.head ≡ false) new)
       → m.sequence ≤ S
       → m.commits ≤ C
       → ((k : ℕ) (o : Seat W) → slice_get m.heads k ≡ Some o → (k ≡ h → ⊥) → is_hardware o.head.state ≡ true → is_hardware (f o).head.state ≡ true → Agrees cells o.reads)
@@ -250,9 +250,9 @@ module _ {W : Type 0} (kit : Kit W) (start : List W) (m : Rig W) (l : History W)
       → is_hardware me'.head.state ≡ false
       → (is_odd S ≡ false → Calm (set (map f m.heads) h me') cells (cells_after closes start))
       → (is_odd S ≡ true → Lone (set (map f m.heads) h me') cells (cells_after closes start))
-      → All (Explained start l) past
+      → AllByRecursion (Explained start l) past
       → Explained start (record { closes = closes; pages = pages; past = past; ended = ended }) page.attempt
-      → All (Bounded start (record { closes = closes; pages = pages; past = past; ended = ended }) kit.patience) ended
+      → AllByRecursion (Bounded start (record { closes = closes; pages = pages; past = past; ended = ended }) kit.patience) ended
       → (page.attempts ≤ most_attempts kit.patience (closes_of_others closes h page.since (length closes)))
       → Inv kit start (record { heads = set (map f m.heads) h me'; sequence = S; commits = C; cells = cells })
       (record { closes = closes; pages = pages; past = past; ended = ended })

@@ -1,6 +1,6 @@
 -- Laws of the order of closes: what stays as it grows, and what a count of closes tells.
 use Rattle.std.proofs.Common.{◌≡◌, ℕ, zero, suc, ◌+◌, ◌-◌, ◌≤◌, Bool, false, cond, not, ◌&&◌, eqb, List, [], ◌∷◌, ◌++◌, length, take, drop, filter, sym, refl, ap, ◌∙◌, subst, arith, take-append-drop}
-use Rattle.std.specs.List.{AllByRecursion as All}
+use Rattle.std.specs.List.{AllByRecursion}
 use Rattle.std.proofs.lemmas.List.{take_all, take-take, take-append-le, drop-append-le, length-append, length-take-le}
 use Rattle.std.proofs.lemmas.List.Elements.{filter-append}
 use Rattle.rules.specs.declared.types.Slot.{Slot}
@@ -60,7 +60,7 @@ module _ {W : Type 0} where
       omega arith
 
   -- closes of others without writes leave the cells as they are
-  pub after-quiet : (k : ℕ) (closes : List (Commit W)) (xs : List W) → All (λ s. eqb k s.head ≡ false) closes → length (filter (is_other k) closes) ≡ 0 → cells_after closes xs ≡ xs
+  pub after-quiet : (k : ℕ) (closes : List (Commit W)) (xs : List W) → AllByRecursion (λ s. eqb k s.head ≡ false) closes → length (filter (is_other k) closes) ≡ 0 → cells_after closes xs ≡ xs
   after-quiet k [] xs a e = refl
   after-quiet k (s ∷ closes) xs a e =
       quiet (λ h. after-quiet k closes xs a.1 h) s.writes (subst (λ b. length (cond (not b && not (is_empty s.writes)) (s ∷ filter (is_other k) closes) (filter (is_other k) closes)) ≡ 0) a.0 e)

@@ -1,6 +1,6 @@
 -- Every call keeps the table in bounds and the lists as long as they are.
 use Rattle.std.proofs.Common.{◌≡◌, ℕ, zero, suc, ◌+◌, ◌*◌, ◌/◌, ◌%◌, ◌<◌, ◌≤◌, true, false, cond, not, ◌&&◌, ◌||◌, leb, List, [], ◌∷◌, length, take, drop, set, replicate, Ok, Err, sym, refl, ap, ◌∙◌, arith}
-use Rattle.std.specs.List.{AllByRecursion as All}
+use Rattle.std.specs.List.{AllByRecursion}
 use Rattle.std.proofs.ByRecursion.{All-get_or}
 use Rattle.std.proofs.lemmas.List.{length-set, length-take}
 use Rattle.std.proofs.lemmas.Bool.{leb-true, leb-false, eqb-false, and_parts}
@@ -35,7 +35,7 @@ use Rattle.rules.proofs.Cases.{granted_of, by_call, by_read, by-write, by-close}
 use Rattle.rules.proofs.HeadBounds.{new-bounds, open-bounds, abort-bounds, begin-bounds, idle-bounds, back-bounds, cancel-bounds, resnap-bounds, read-bounds, write-bounds}
 use Rattle.rules.proofs.TableBounds.{busy, bounds-with, bounds-stay, bounds-end}
 
-all_replicate : {X : Type 0} (P : X → Type 0) (n : ℕ) (x : X) → P x → All P (replicate n x)
+all_replicate : {X : Type 0} (P : X → Type 0) (n : ℕ) (x : X) → P x → AllByRecursion P (replicate n x)
 all_replicate P zero x p = tt
 all_replicate P (suc n) x p = (p, all_replicate P n x p)
 

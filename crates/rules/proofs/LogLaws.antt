@@ -1,6 +1,6 @@
 -- Laws of logs: what a write or a read leaves in one, and what putting one into the cells does.
 use Rattle.std.proofs.Common.{◌≡◌, ℕ, suc, ◌+◌, ◌-◌, ◌≤◌, true, false, cond, not, ◌&&◌, ◌||◌, eqb, leb, ◌⊎◌, List, [], ◌∷◌, ◌++◌, length, set, Some, None, Option, sym, refl, ap, ◌∙◌, subst, ⊎_elim, arith}
-use Rattle.std.specs.List.{slice_get, AllByRecursion as All}
+use Rattle.std.specs.List.{slice_get, AllByRecursion}
 use Rattle.std.proofs.lemmas.Bool.{eqb-true, eqb-false, ne_eqb, or_parts, or_cases, and_parts, and_from, leb-false}
 use Rattle.std.proofs.lemmas.List.{set-set, set_comm, length-append}
 use Rattle.std.proofs.ByRecursion.{All-append}
@@ -71,10 +71,10 @@ module _ {W : Type 0} where
   some-push s [] = refl
   some-push s (x ∷ log) = refl
 
-  pub all-put : (P : Slot W → Type 0) (c : ℕ) (w : W) (log : List (Slot W)) → P (slot c w) → All P log → All P (put c w log)
+  pub all-put : (P : Slot W → Type 0) (c : ℕ) (w : W) (log : List (Slot W)) → P (slot c w) → AllByRecursion P log → AllByRecursion P (put c w log)
   all-put P c w [] p h = (p, tt)
   all-put P c w (s ∷ log) p h =
-      by-test (eqb c s.cell) (λ b. All P (cond b (slot c w ∷ log) (s ∷ put c w log))) (λ _. (p, h.1)) (λ _. (h.0, all-put P c w log p h.1))
+      by-test (eqb c s.cell) (λ b. AllByRecursion P (cond b (slot c w ∷ log) (s ∷ put c w log))) (λ _. (p, h.1)) (λ _. (h.0, all-put P c w log p h.1))
 
   pub word_none : (c : ℕ) (log : List (Slot W)) → word_for c log ≡ None → names c log ≡ false
   word_none c [] e = refl
@@ -144,7 +144,7 @@ module _ {W : Type 0} (kit : Kit W) where
       (λ s apart at. nth-set-other xs c s.cell w (λ q. eqb-false (kit.line c) (kit.line s.cell) apart (ap kit.line q)) ∙ at)
       log (any_none (λ s. eqb (kit.line c) (kit.line s.cell)) log e) h
 
-  pub agrees-put-in : (ws log : List (Slot W)) (xs : List W) → All (λ s. meets kit s.cell log ≡ false) ws → Agrees xs log → Agrees (put_in ws xs) log
+  pub agrees-put-in : (ws log : List (Slot W)) (xs : List W) → AllByRecursion (λ s. meets kit s.cell log ≡ false) ws → Agrees xs log → Agrees (put_in ws xs) log
   agrees-put-in [] log xs a h = h
   agrees-put-in (s ∷ ws) log xs a h = agrees-put-in ws log (set xs s.cell s.word) a.1 (agrees-set s.cell s.word log xs a.0 h)
 

@@ -1,6 +1,6 @@
 -- Calls that begin or end an attempt and touch nothing else: open, again, jolt and drop.
 use Rattle.std.proofs.Common.{◌≡◌, ℕ, ◌+◌, ◌<◌, ◌≤◌, true, false, ◌||◌, eqb, ◌⊎◌, List, [], length, Some, Ok, sym, refl, ap, ◌∙◌, subst, ⊎_elim, arith}
-use Rattle.std.specs.List.{slice_get, AllByRecursion as All}
+use Rattle.std.specs.List.{slice_get, AllByRecursion}
 use Rattle.std.proofs.lemmas.Bool.{cases_lt}
 use Rattle.std.proofs.lemmas.List.{drop_all}
 use Rattle.parts.specs.declared.types.Cause.{Cause}
@@ -78,7 +78,7 @@ module _ {W : Type 0} (kit : Kit W) (law : Lawful kit) (start : List W) (b : Ben
         attempts = refl;
         since = omega arith;
         mark = refl;
-        going = λ _. subst (All (λ s. eqb h s.head ≡ false)) (sym (drop_all n l.closes (omega arith))) tt;
+        going = λ _. subst (AllByRecursion (λ s. eqb h s.head ≡ false)) (sym (drop_all n l.closes (omega arith))) tt;
         live = λ _. record { words = λ c. refl; puts = λ xs. refl; some = refl; apart = tt; reads = λ xs a. tt; unclosed = refl };
         hardware = λ _. record { valid = tt; under = omega (arith, law.some); budget = omega arith };
         software = λ e. wrong e;

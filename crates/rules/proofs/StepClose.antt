@@ -1,6 +1,6 @@
 -- A granted close.
 use Rattle.std.proofs.Common.{◌≡◌, ℕ, ◌+◌, ◌-◌, ◌%◌, ◌<◌, ◌≤◌, Bool, true, false, not, ◌&&◌, ◌||◌, eqb, List, [], ◌∷◌, ◌++◌, map, length, set, Some, Ok, sym, refl, ap, ◌∙◌, subst, arith}
-use Rattle.std.specs.List.{slice_get, AllByRecursion as All}
+use Rattle.std.specs.List.{slice_get, AllByRecursion}
 use Rattle.std.proofs.lemmas.Bool.{eqb-false, eq-eqb, ne_eqb, cond_both}
 use Rattle.std.proofs.lemmas.List.{length-append, take-append-le}
 use Rattle.std.proofs.ByRecursion.{All-weaker}
@@ -104,10 +104,10 @@ module _ {W : Type 0} (kit : Kit W) (law : Lawful kit) (start : List W) (b : Ben
         aborted = λ e. wrong (sym nf ∙ e);
       }
 
-  other-head : (k : ℕ) → (k ≡ h → ⊥) → All (λ s. eqb k s.head ≡ false) (commit ∷ [])
+  other-head : (k : ℕ) → (k ≡ h → ⊥) → AllByRecursion (λ s. eqb k s.head ≡ false) (commit ∷ [])
   other-head k ne = (ne_eqb k h ne, tt)
 
-  ended-ok : (writing : Bool) → All (Bounded start (l' writing) kit.patience) (l' writing).ended
+  ended-ok : (writing : Bool) → AllByRecursion (Bounded start (l' writing) kit.patience) (l' writing).ended
   ended-ok writing =
       let o = inv.heads h me at in
       let stable = count-stable l.closes (commit ∷ []) h (l.pages h).since n (omega arith) in (

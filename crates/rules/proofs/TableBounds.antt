@@ -1,6 +1,6 @@
 -- A sweep of the heads and a new record for one of them keep a table in bounds.
 use Rattle.std.proofs.Common.{◌≡◌, ℕ, zero, suc, ◌+◌, ◌/◌, ◌<◌, ◌≤◌, true, false, cond, List, [], ◌∷◌, length, get_or, set, sym, refl, ap, ◌∙◌, ⊎_elim, arith}
-use Rattle.std.specs.List.{AllByRecursion as All}
+use Rattle.std.specs.List.{AllByRecursion}
 use Rattle.std.proofs.lemmas.List.Elements.{length_all_zip}
 use Rattle.std.proofs.ByRecursion.{All-set}
 use Rattle.std.proofs.lemmas.List.{length-set}
@@ -34,7 +34,7 @@ hit-idle x y h =
     (λ (q : (is_hardware x.state ≡ true) × ((cause : Cause) × (y ≡ abort cause x))).
     ap (λ (z : Head). is_idle z.state) q.1.1 ∙ sym (hardware-busy x.state q.0)) h
 
-swept-bounds : (xs ys : List Head) → Swept xs ys → All HeadBounds xs → All HeadBounds ys
+swept-bounds : (xs ys : List Head) → Swept xs ys → AllByRecursion HeadBounds xs → AllByRecursion HeadBounds ys
 swept-bounds [] [] p q = tt
 swept-bounds [] (y ∷ ys) p q = absurd p
 swept-bounds (x ∷ xs) [] p q = absurd p

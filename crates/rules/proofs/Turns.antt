@@ -1,6 +1,6 @@
 -- What holds of states, and how a quiet call of one head keeps the invariant.
 use Rattle.std.proofs.Common.{◌≡◌, ℕ, ◌≤◌, true, false, ◌||◌, eqb, List, [], ◌∷◌, map, length, set, Some, sym, refl, subst}
-use Rattle.std.specs.List.{slice_get, AllByRecursion as All}
+use Rattle.std.specs.List.{slice_get, AllByRecursion}
 use Rattle.std.proofs.lemmas.Bool.{eq-eqb, ne_eqb, cond-true, cond-false}
 use Rattle.rules.specs.declared.types.State.{State}
 use Rattle.rules.specs.declared.types.State.TheVariants.{Idle, Hardware, Software, Aborted, WritingBack}
@@ -20,7 +20,7 @@ turned-here pages h p = cond-true (eqb h h) p (pages h) (eq-eqb h h refl)
 pub turned-other : {X : Type 0} (pages : ℕ → X) (h : ℕ) (p : X) (k : ℕ) → (k ≡ h → ⊥) → turned pages h p k ≡ pages k
 turned-other pages h p k ne = cond-false (eqb k h) p (pages k) (ne_eqb k h ne)
 
-pub all_true : {X : Type 0} (P : X → Type 0) → ((x : X) → P x) → (xs : List X) → All P xs
+pub all_true : {X : Type 0} (P : X → Type 0) → ((x : X) → P x) → (xs : List X) → AllByRecursion P xs
 all_true P f [] = tt
 all_true P f (x ∷ xs) = (f x, all_true P f xs)
 
@@ -71,9 +71,9 @@ module _ {W : Type 0} (kit : Kit W) (start : List W) (m : Rig W) (l : History W)
       → (is_odd m.sequence ≡ true → is_hardware me'.head.state ≡ false)
       → ((k : ℕ) (it : Seat W) → slice_get m.heads k ≡ Some it → (k ≡ h → ⊥) → is_hardware me'.head.state ≡ true → is_hardware it.head.state ≡ true
       → is_hardware (f it).head.state ≡ true → Clear kit me' it × Clear kit it me')
-      → All (Explained start l) past
+      → AllByRecursion (Explained start l) past
       → Explained start l page.attempt
-      → All (Bounded start l kit.patience) ended
+      → AllByRecursion (Bounded start l kit.patience) ended
       → (page.attempts ≤ most_attempts kit.patience (closes_of_others l.closes h page.since (length l.closes)))
       → Inv kit start (record { heads = set (map f m.heads) h me'; sequence = m.sequence; commits = m.commits; cells = m.cells })
       (record { closes = l.closes; pages = pages; past = past; ended = ended })

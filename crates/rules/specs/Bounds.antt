@@ -1,6 +1,6 @@
 -- How large a rig's numbers get, whatever the lists hold: no number ever runs over.
 use Rattle.std.specs.Prelude.{◌≡◌, ℕ, ◌+◌, ◌/◌, ◌≤◌, cond, List, [], ◌∷◌, length, Ok}
-use Rattle.std.specs.List.{AllByRecursion as All}
+use Rattle.std.specs.List.{AllByRecursion}
 use Rattle.rules.specs.declared.types.Call.{Call}
 use Rattle.rules.specs.declared.types.Caller.{Caller}
 use Rattle.rules.specs.declared.types.Head.{Head}
@@ -26,7 +26,7 @@ busy_heads (h ∷ heads) = cond (is_idle h.state) 0 1 + busy_heads heads
 
 -- each transaction under way and each commit counted has used up one that was opened
 pub record InBounds (t : Table) : Type 0 where
-  pub heads : All HeadBounds t.heads
+  pub heads : AllByRecursion HeadBounds t.heads
   pub eight : length t.heads ≡ 8
   pub few_heads : t.head_count ≤ 8
   pub few_cells : t.cell_count ≤ 1024
