@@ -1,5 +1,5 @@
 -- The first trouble of a line.
-use Rattle.std.proofs.Common.{◌≡◌, ℕ, zero, suc, ◌+◌, ◌*◌, ◌<◌, ◌≤◌, cond, eqb, ◌⊎◌, List, [], ◌∷◌, length, get_or, Some, None, Option, sym, refl, ap, ◌∙◌, subst, inl, inr, ⊎_elim, arith}
+use Rattle.std.proofs.Common.{◌≡◌, ℕ, zero, suc, ◌+◌, ◌*◌, ◌<◌, ◌≤◌, cond, eqb, List, [], ◌∷◌, length, get_or, Some, None, Option, sym, refl, ap, ◌∙◌, subst, inl, inr, ⊎_elim, arith}
 use Rattle.std.specs.List.{slice_get}
 use Rattle.std.proofs.lemmas.Bool.{cases_lt}
 use Rattle.faults.specs.declared.types.FieldFault.{FieldFault}
@@ -15,7 +15,7 @@ use Rattle.lines.specs.declared.types.Line.{Line}
 use Rattle.lines.specs.declared.types.Line.TheVariants as line
 use Rattle.lines.specs.declared.types.Stage.{Stage}
 use Rattle.entries.specs.Rendering.{word_text, letter_text}
-use Rattle.lines.specs.Faults.{Kind, kinds, operand_kinds, least, Counted, Placed, Good, Trouble, unknown, misplaced, miscounted, bad, Leads, Wrong, order, First, field_fault}
+use Rattle.lines.specs.Faults.{Kind, kinds, operand_kinds, Counted, Placed, Good, Trouble, unknown, misplaced, miscounted, bad, Leads, Wrong, order, First, field_fault}
 use Rattle.lines.specs.Steps.{line_parts, line_word, operand_parts, parts_letter, FirstBad, MadeOf, Troubled}
 
 -- a text is that of one word at most

@@ -1,5 +1,5 @@
 -- What ties the rig to the history, and holds after every call.
-use Rattle.std.proofs.Common.{◌≡◌, ℕ, ◌+◌, ◌-◌, ◌<◌, ◌≤◌, true, false, ◌||◌, eqb, List, length, take, drop, Some, None}
+use Rattle.std.proofs.Common.{◌≡◌, ℕ, ◌+◌, ◌<◌, ◌≤◌, true, false, ◌||◌, eqb, List, length, take, drop, Some, None}
 use Rattle.std.specs.List.{slice_get, AllByRecursion}
 use Rattle.rules.specs.Logs.{is_empty, names, put_in}
 use Rattle.rules.specs.Kit.{Kit}

@@ -1,5 +1,5 @@
 -- The bench seen as heads with their logs: a seat is a head together with its two logs.
-use Rattle.std.proofs.Common.{◌≡◌, ℕ, zero, suc, ◌+◌, ◌-◌, ◌<◌, ◌≤◌, Bool, cond, ◌&&◌, List, [], ◌∷◌, map, length, get_or, take, set, Some, sym, refl, ap, ◌∙◌, add-zero, arith}
+use Rattle.std.proofs.Common.{◌≡◌, ℕ, zero, suc, ◌+◌, ◌<◌, ◌≤◌, Bool, cond, ◌&&◌, List, [], ◌∷◌, map, length, get_or, take, set, Some, sym, refl, ap, ◌∙◌, add-zero, arith}
 use Rattle.std.specs.List.{slice_get, AllByRecursion}
 use Rattle.std.proofs.lemmas.List.{take-map}
 use Rattle.parts.specs.declared.types.Cause.{Cause}

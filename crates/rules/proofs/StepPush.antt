@@ -11,7 +11,7 @@ use Rattle.rules.specs.declared.types.State.TheVariants.{Idle, WritingBack}
 use Rattle.rules.specs.Kit.{Kit, Lawful}
 use Rattle.rules.specs.Logs.{put_in}
 use Rattle.rules.specs.Heads.{is_hardware, is_writing_back, become, wrote}
-use Rattle.rules.specs.Bench.{Bench, head_at, present, is_odd}
+use Rattle.rules.specs.Bench.{Bench, head_at, is_odd}
 use Rattle.rules.specs.Calls.{granted_push}
 use Rattle.rules.specs.Answers.{answered}
 use Rattle.rules.specs.Bounds.{InBounds}
