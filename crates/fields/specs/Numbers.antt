@@ -11,7 +11,7 @@ use Rattle.faults.specs.declared.types.FieldFault.{FieldFault}
 abbrev pub Number : List ℕ → ℕ → Type 0
 Number bytes n = (bytes ≡ decimal n) × (n ≤ 4294967295)
 
--- `signed z` is the numeral of z: that of its size, after a minus sign (byte 45) if z is below 0.
+-- `signed_decimal z` is the numeral of z: that of its size, after a minus sign (byte 45) if z is below 0.
 -- An amount lies in 32 signed bits: `mag` is n both of n and of -(n + 1).
 abbrev pub Amount : List ℕ → ℤ → Type 0
 Amount bytes z = (bytes ≡ signed_decimal z) × (mag z ≤ 2147483647)
