@@ -2,12 +2,14 @@
 #![tactic(auto)]
 
 mod boards;
+mod calls;
 mod causes;
 mod policies;
 mod types;
 mod words;
 
 pub use boards::{Board, LinesBoard, Margin, StoresBoard};
+pub use calls::Call;
 pub use policies::{Careful, Plain, Policy};
 pub use types::{Cause, Mode, Prices, Rate};
 pub use words::Word;
