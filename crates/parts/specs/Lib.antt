@@ -1,4 +1,3 @@
-pub mod Words
 pub mod Boards
 pub mod Policies
 pub mod Causes

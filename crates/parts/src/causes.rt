@@ -8,13 +8,7 @@ impl Cause {
     pub fn number(self) -> u8
         ensures { result ≡ cause_number self }
     {
-        match self {
-            Cause::Conflict => 1,
-            Cause::Capacity => 2,
-            Cause::Lock => 3,
-            Cause::Other => 4,
-            Cause::Changed => 5,
-        }
+        self as u8
     }
 }
 
@@ -22,9 +16,6 @@ impl Mode {
     pub fn number(self) -> u8
         ensures { result ≡ mode_number self }
     {
-        match self {
-            Mode::Hardware => 1,
-            Mode::Software => 2,
-        }
+        self as u8
     }
 }

@@ -3,7 +3,7 @@ ghost use Rattle.std.specs.Prelude.{◌≡◌, ℕ, ◌≤◌};
 ghost use Rattle.parts.specs.declared.types.Cause.{Cause};
 ghost use Rattle.parts.specs.declared.types.Mode.{Mode};
 ghost use Rattle.parts.specs.declared.types.Mode.TheVariants as modes;
-ghost use Rattle.parts.specs.Policies.{plain_mode, careful_mode};
+ghost use Rattle.parts.specs.Policies.{hardware_below, plain_mode, careful_mode};
 ghost use Rattle.std.proofs.Common.{rules};
 
 use crate::types::{Cause, Mode};
@@ -26,6 +26,17 @@ pub trait Policy {
     ghost most: { (p : Self) → patient p ≤ 64 };
 }
 
+// In hardware while there were fewer aborts than the most.
+fn hardware_below(most: u32, aborts: u32) -> Mode
+    ensures { result ≡ hardware_below most aborts }
+{
+    if aborts < most {
+        Mode::Hardware
+    } else {
+        Mode::Software
+    }
+}
+
 // Software from the third hardware abort on.
 #[derive(Clone, Copy)]
 pub struct Plain;
@@ -42,11 +53,7 @@ impl Policy for Plain {
     ghost most = { Prim.search rules };
 
     fn next(&self, _cause: Cause, aborts: u32) -> Mode {
-        if aborts < 3 {
-            Mode::Hardware
-        } else {
-            Mode::Software
-        }
+        hardware_below(3, aborts)
     }
 }
 
@@ -71,10 +78,6 @@ impl Policy for Careful {
             Cause::Lock | Cause::Other => 5,
             Cause::Capacity | Cause::Changed => 0,
         };
-        if aborts < most {
-            Mode::Hardware
-        } else {
-            Mode::Software
-        }
+        hardware_below(most, aborts)
     }
 }

@@ -4,33 +4,33 @@
 #[derive(Clone, Copy)]
 pub enum Cause {
     // another head reached a line that this one had
-    Conflict,
+    Conflict = 1,
     // the board has no room for so much
-    Capacity,
+    Capacity = 2,
     // a software commit took the sequence lock
-    Lock,
+    Lock = 3,
     // an interrupt
-    Other,
+    Other = 4,
     // validation found another word than the one that was read
-    Changed,
+    Changed = 5,
 }
 
 // How an attempt runs: as a hardware transaction of the board, or in software.
 #[derive(Clone, Copy)]
 pub enum Mode {
-    Hardware,
-    Software,
+    Hardware = 1,
+    Software = 2,
 }
 
 // The two prices of an item, in hundredths.
-#[derive(Clone, Copy)]
+#[derive(Clone, Copy, PartialEq, Eq)]
 pub struct Prices {
     pub retail: u32,
     pub wholesale: u32,
 }
 
 // What an item costs.
-#[derive(Clone, Copy)]
+#[derive(Clone, Copy, PartialEq, Eq)]
 pub enum Rate {
     Unset,
     PerKilogram(Prices),
