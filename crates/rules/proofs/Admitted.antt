@@ -1,8 +1,8 @@
 -- What is known once no refusal is found.
-use Rattle.std.proofs.Common.{◌≡◌, ◌*◌, ◌<◌, Bool, true, false, ◌&&◌, eqb, List, [], ◌∷◌, length, Some, None, Option, sym, refl}
+use Rattle.std.proofs.Common.{◌≡◌, ℕ, ◌*◌, ◌<◌, Bool, true, false, ◌&&◌, eqb, List, [], ◌∷◌, length, Some, None, Option, sym, refl}
 use Rattle.std.specs.List.{AllByRecursion}
 use Rattle.std.proofs.lemmas.Bool.{not-false, eqb-true, leb-false, and_parts}
-use Rattle.rules.specs.declared.types.Call.{Call}
+use Rattle.parts.specs.declared.calls.Call.{Call}
 use Rattle.rules.specs.declared.types.Caller.{Caller}
 use Rattle.rules.specs.declared.types.Refusal.{Refusal}
 use Rattle.rules.specs.Bench.{Bench, head_at, is_odd}
@@ -30,7 +30,7 @@ sized b e =
     let q = and_parts (eqb (length b.reads) (32 * b.table.head_count)) (eqb (length b.writes) (32 * b.table.head_count)) p.1 in
     record { cells = eqb-true _ _ p.0; reads = eqb-true _ _ q.0; writes = eqb-true _ _ q.1 }
 
-pub record Admitted {W : Type 0} (b : Bench W) (who : Caller) (call : Call W) : Type 0 where
+pub record Admitted {W : Type 0} (b : Bench W) (who : Caller) (call : Call ℕ W) : Type 0 where
   pub lists : Sized b
   pub head : who.head < b.table.head_count
   pub own : is_stale who.transaction (head_at b who.head) ≡ false
@@ -41,7 +41,7 @@ pub record Admitted {W : Type 0} (b : Bench W) (who : Caller) (call : Call W) : 
   pub transaction : lacks_transaction b who.head call ≡ false
   pub attempt : lacks_attempt b who.head call ≡ false
 
-pub admitted : {W : Type 0} (b : Bench W) (who : Caller) (call : Call W) → refusal b who call ≡ None → Admitted b who call
+pub admitted : {W : Type 0} (b : Bench W) (who : Caller) (call : Call ℕ W) → refusal b who call ≡ None → Admitted b who call
 admitted b who call e =
     let rows = first-none (refusals b who call) e in
     record {

@@ -4,8 +4,8 @@ use Rattle.std.proofs.lemmas.List.{get_or-set_other}
 use Rattle.std.proofs.lemmas.Bool.{both_ways, not_from_false, eq-eqb, ne_eqb, lt-leb}
 use Rattle.parts.specs.declared.types.Cause.{Cause}
 use Rattle.parts.specs.declared.types.Cause.TheVariants.{Capacity, Other, Changed}
-use Rattle.rules.specs.declared.types.Call.{Call}
-use Rattle.rules.specs.declared.types.Call.TheVariants.{Open, Read, Write, Close, Push, Jolt, Again, Drop}
+use Rattle.parts.specs.declared.calls.Call.{Call}
+use Rattle.parts.specs.declared.calls.Call.TheVariants.{Open, Read, Write, Close, Push, Jolt, Again, Drop}
 use Rattle.rules.specs.declared.types.Caller.{Caller}
 use Rattle.rules.specs.declared.types.Closing.{Closing}
 use Rattle.rules.specs.declared.types.Granted.{Granted}
@@ -36,7 +36,7 @@ module _ {W : Type 0} (kit : Kit W) (b : Bench W) where
   stays-abort : (cause : Cause) (left : Bench W) → Stays b (Err (refuse.Aborted cause), left)
   stays-abort cause left e q not-abort = let z : e ≡ refuse.Aborted cause = cc in absurd (not-abort cause z)
 
-  stays : (k : ℕ) (call : Call W) → Stays b (granted_of kit b k call)
+  stays : (k : ℕ) (call : Call ℕ W) → Stays b (granted_of kit b k call)
   stays k Open = stays-granted _ _
   stays k (Read c) =
       by_read kit b k c (λ (o : Outcome W W). Stays b (answered granted.Word o)) (λ w. stays-granted _ _) (λ e q not-abort. refl)
@@ -68,7 +68,7 @@ wrong-lists-refused {W} kit b who call f =
     (λ q. none-some refuse.Lists (sym q ∙ is))
 
 module _ {W : Type 0} (kit : Kit W) (b : Bench W) (k : ℕ) where
-  cells_stay : (call : Call W) → (is_granted (granted_of kit b k call).0 && may_write b k call) ≡ false → (granted_of kit b k call).1.cells ≡ b.cells
+  cells_stay : (call : Call ℕ W) → (is_granted (granted_of kit b k call).0 && may_write b k call) ≡ false → (granted_of kit b k call).1.cells ≡ b.cells
   cells_stay Open e = refl
   cells_stay (Read c) e = by_read kit b k c (λ (o : Outcome W W). o.left.cells ≡ b.cells) (λ w. refl) refl (λ _ ys p s w. refl) (λ ys p cause. refl)
   cells_stay (Write c w) e = by-write kit b k c w (λ (o : Outcome (Unit {0}) W). o.left.cells ≡ b.cells) (λ ys p. refl) refl
@@ -88,7 +88,7 @@ module _ {W : Type 0} (kit : Kit W) (b : Bench W) (k : ℕ) where
   other-alone : (h : Head) (j : ℕ) → (j ≡ k → ⊥) → Hit (head_at b j) (get_or (set b.table.heads k h) j new_head)
   other-alone = other-set b.table.heads (swept_none b.table.heads)
 
-  others-hit : (call : Call W) (j : ℕ) → (j ≡ k → ⊥) → Hit (head_at b j) (head_at (granted_of kit b k call).1 j)
+  others-hit : (call : Call ℕ W) (j : ℕ) → (j ≡ k → ⊥) → Hit (head_at b j) (head_at (granted_of kit b k call).1 j)
   others-hit Open j ne = other-alone _ j ne
   others-hit (Read c) j ne =
       by_read kit b k c (λ (o : Outcome W W). Hit (head_at b j) (head_at o.left j)) (λ w. inl refl) (inl refl)
@@ -118,14 +118,14 @@ abbrev settled_by : {W : Type 0} → Option Refusal → Bench W → Answer W × 
 settled_by None b r = r
 settled_by (Some e) b r = (Err e, b)
 
-call-is : {W : Type 0} (kit : Kit W) (b : Bench W) (who : Caller) (call : Call W) → call_of kit b who call ≡ settled_by (refusal b who call) b (granted_of kit b who.head call)
+call-is : {W : Type 0} (kit : Kit W) (b : Bench W) (who : Caller) (call : Call ℕ W) → call_of kit b who call ≡ settled_by (refusal b who call) b (granted_of kit b who.head call)
 call-is {W} kit b who call =
     let g = granted_of kit b who.head call in
     by_call kit b who call (λ (r : Answer W × Bench W). r ≡ settled_by (refusal b who call) b g)
     (λ e q. ap (λ o. settled_by o b g) (sym q)) (λ q. ap (λ o. settled_by o b g) (sym q))
 
 -- the refusal of a call of the head k, by the first three tests
-abbrev refusal_by : {W : Type 0} → Bench W → ℕ → Call W → Bool → Bool → Bool → Option Refusal
+abbrev refusal_by : {W : Type 0} → Bench W → ℕ → Call ℕ W → Bool → Bool → Bool → Option Refusal
 refusal_by b k call unfit missing stale =
     let s = (head_at b k).state in
     first

@@ -4,8 +4,8 @@ use Rattle.std.specs.List.{slice_get}
 use Rattle.std.proofs.lemmas.Bool.{cond_both}
 use Rattle.parts.specs.declared.types.Cause.{Cause}
 use Rattle.parts.specs.declared.types.Cause.TheVariants.{Capacity, Changed}
-use Rattle.rules.specs.declared.types.Call.{Call}
-use Rattle.rules.specs.declared.types.Call.TheVariants.{Open, Read, Write, Close, Push, Jolt, Again, Drop}
+use Rattle.parts.specs.declared.calls.Call.{Call}
+use Rattle.parts.specs.declared.calls.Call.TheVariants.{Open, Read, Write, Close, Push, Jolt, Again, Drop}
 use Rattle.rules.specs.declared.types.Caller.{Caller}
 use Rattle.rules.specs.declared.types.Closing.{Closing}
 use Rattle.rules.specs.declared.types.Closing.TheVariants as closing
@@ -28,7 +28,7 @@ use Rattle.rules.proofs.Basics.{by-option}
 use Rattle.rules.proofs.Sweeps.{Swept, swept_none, swept-loads, swept-store}
 
 -- a call that nothing refuses
-abbrev pub granted_of : {W : Type 0} → Kit W → Bench W → ℕ → Call W → Answer W × Bench W
+abbrev pub granted_of : {W : Type 0} → Kit W → Bench W → ℕ → Call ℕ W → Answer W × Bench W
 granted_of kit b k Open = answered granted.Begun (granted_open b k)
 granted_of kit b k (Read c) = answered granted.Word (granted_read kit b k c)
 granted_of kit b k (Write c w) = answered (λ _. granted.Done) (granted_write kit b k c w)
@@ -43,7 +43,7 @@ by-refusal : {A W : Type 0} (give : A → Granted W) (o : Option Refusal) (b : B
 by-refusal give None b r P no' yes' = yes' refl
 by-refusal give (Some e) b r P no' yes' = no' e refl
 
-pub by_call : {W : Type 0} (kit : Kit W) (b : Bench W) (who : Caller) (call : Call W) (P : Answer W × Bench W → Type 0)
+pub by_call : {W : Type 0} (kit : Kit W) (b : Bench W) (who : Caller) (call : Call ℕ W) (P : Answer W × Bench W → Type 0)
     → ((e : Refusal) → refusal b who call ≡ Some e → P (Err e, b))
     → (refusal b who call ≡ None → P (granted_of kit b who.head call)) → P (call_of kit b who call)
 by_call kit b who Open P = by-refusal granted.Begun (refusal b who Open) b (granted_open b who.head) P

@@ -2,7 +2,7 @@
 use Rattle.std.proofs.Common.{◌≡◌, ℕ, ◌<◌, List, map, set, sym, refl, subst}
 use Rattle.parts.specs.declared.types.Mode.{Mode}
 use Rattle.parts.specs.declared.types.Mode.TheVariants as mode
-use Rattle.rules.specs.declared.types.Call.{Call}
+use Rattle.parts.specs.declared.calls.Call.{Call}
 use Rattle.rules.specs.declared.types.Head.{Head}
 use Rattle.rules.specs.declared.types.Slot.{Slot}
 use Rattle.rules.specs.Kit.{Kit}
@@ -20,7 +20,7 @@ by_mode mode.Hardware P p q = p refl
 by_mode mode.Software P p q = q refl
 
 -- the call of the head k keeps the invariant, with its answer entered into the history
-abbrev pub Keeps : {W : Type 0} → Kit W → List W → History W → ℕ → Call W → Answer W × Bench W → Type 0
+abbrev pub Keeps : {W : Type 0} → Kit W → List W → History W → ℕ → Call ℕ W → Answer W × Bench W → Type 0
 Keeps kit start l k call o = Inv kit start (view o.1) (entered l k call o.0)
 
 module _ {W : Type 0} (kit : Kit W) (start : List W) (l : History W) (b : Bench W) (bounds : InBounds b.table) (lists : Sized b) (k : ℕ) (lt : k < b.table.head_count)

@@ -8,8 +8,8 @@ use Rattle.parts.specs.declared.types.Cause.{Cause}
 use Rattle.parts.specs.declared.types.Cause.TheVariants.{Capacity, Other, Changed}
 use Rattle.parts.specs.declared.types.Mode.{Mode}
 use Rattle.parts.specs.declared.types.Mode.TheVariants as mode
-use Rattle.rules.specs.declared.types.Call.{Call}
-use Rattle.rules.specs.declared.types.Call.TheVariants.{Open, Read, Write, Close, Push, Jolt, Again, Drop}
+use Rattle.parts.specs.declared.calls.Call.{Call}
+use Rattle.parts.specs.declared.calls.Call.TheVariants.{Open, Read, Write, Close, Push, Jolt, Again, Drop}
 use Rattle.rules.specs.declared.types.Caller.{Caller}
 use Rattle.rules.specs.declared.types.Closing.{Closing}
 use Rattle.rules.specs.declared.types.Head.{Head}
@@ -191,7 +191,7 @@ module _ {W : Type 0} (kit : Kit W) (b : Bench W) (s : InBounds b.table) (who : 
   abbrev state : State
   state = (head_at b k).state
 
-  granted-kept : (call : Call W) → Admitted b who call → k < 8 → Kept b (granted_of kit b k call).1
+  granted-kept : (call : Call ℕ W) → Admitted b who call → k < 8 → Kept b (granted_of kit b k call).1
   granted-kept Open a lt = open_kept kit b s k lt a.taken (leb-false 60_000 b.table.opened a.transaction)
   granted-kept (Read c) a lt = read_kept kit b s k lt (taken-busy {W = W} (Read c) state refl a.taken) c (omega (arith, a.head, a.lists.reads)) a.slot
   granted-kept (Write c w) a lt =

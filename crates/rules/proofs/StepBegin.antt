@@ -6,7 +6,7 @@ use Rattle.std.proofs.lemmas.List.{drop_all}
 use Rattle.parts.specs.declared.types.Cause.{Cause}
 use Rattle.parts.specs.declared.types.Cause.TheVariants.{Conflict, Capacity, Lock, Other, Changed}
 use Rattle.parts.specs.declared.types.Mode.TheVariants as mode
-use Rattle.rules.specs.declared.types.Call.TheVariants.{Open, Jolt, Again, Drop}
+use Rattle.parts.specs.declared.calls.Call.TheVariants.{Open, Jolt, Again, Drop}
 use Rattle.rules.specs.declared.types.Granted.TheVariants as granted
 use Rattle.rules.specs.declared.types.State.{State}
 use Rattle.rules.specs.declared.types.State.TheVariants.{Idle, Hardware, Software, Aborted, WritingBack}

@@ -5,7 +5,7 @@ use Rattle.std.proofs.lemmas.Bool.{eqb-false, eq-eqb, ne_eqb, cond_both}
 use Rattle.std.proofs.lemmas.List.{length-append, take-append-le}
 use Rattle.std.proofs.ByRecursion.{All-weaker}
 use Rattle.parts.specs.declared.types.Cause.TheVariants.{Changed}
-use Rattle.rules.specs.declared.types.Call.TheVariants.{Close}
+use Rattle.parts.specs.declared.calls.Call.TheVariants.{Close}
 use Rattle.rules.specs.declared.types.Closing.{Closing}
 use Rattle.rules.specs.declared.types.Closing.TheVariants as closing
 use Rattle.rules.specs.declared.types.Granted.TheVariants as granted

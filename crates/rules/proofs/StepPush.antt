@@ -3,7 +3,7 @@ use Rattle.std.proofs.Common.{◌≡◌, ℕ, ◌+◌, ◌-◌, ◌%◌, ◌<◌
 use Rattle.std.specs.List.{slice_get}
 use Rattle.std.proofs.lemmas.Bool.{eqb-true, eq-eqb, ne_eqb, leb-true, leb-false}
 use Rattle.std.proofs.lemmas.List.{drop-drop, drop_all}
-use Rattle.rules.specs.declared.types.Call.TheVariants.{Push}
+use Rattle.parts.specs.declared.calls.Call.TheVariants.{Push}
 use Rattle.rules.specs.declared.types.Granted.TheVariants as granted
 use Rattle.rules.specs.declared.types.Head.{Head}
 use Rattle.rules.specs.declared.types.Slot.{Slot}

@@ -3,7 +3,7 @@ use Rattle.std.proofs.Common.{◌≡◌, ℕ, ◌<◌, ◌≤◌, true, false, c
 use Rattle.std.specs.List.{slice_get}
 use Rattle.std.proofs.lemmas.Bool.{cond_both, or_parts}
 use Rattle.parts.specs.declared.types.Cause.TheVariants.{Capacity, Changed}
-use Rattle.rules.specs.declared.types.Call.TheVariants.{Read}
+use Rattle.parts.specs.declared.calls.Call.TheVariants.{Read}
 use Rattle.rules.specs.declared.types.Granted.TheVariants as granted
 use Rattle.rules.specs.declared.types.Head.{Head}
 use Rattle.rules.specs.declared.types.Slot.{Slot}

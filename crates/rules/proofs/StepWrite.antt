@@ -3,7 +3,7 @@ use Rattle.std.proofs.Common.{◌≡◌, ℕ, ◌+◌, ◌<◌, ◌≤◌, true,
 use Rattle.std.specs.List.{slice_get}
 use Rattle.std.proofs.lemmas.Bool.{cond_both, cond-true}
 use Rattle.parts.specs.declared.types.Cause.TheVariants.{Conflict, Capacity}
-use Rattle.rules.specs.declared.types.Call.TheVariants.{Write}
+use Rattle.parts.specs.declared.calls.Call.TheVariants.{Write}
 use Rattle.rules.specs.declared.types.Granted.TheVariants as granted
 use Rattle.rules.specs.declared.types.Head.{Head}
 use Rattle.rules.specs.declared.types.Slot.{Slot}

@@ -2,8 +2,8 @@
 use Rattle.std.proofs.Common.{◌≡◌, ℕ, zero, suc, ◌+◌, ◌≤◌, true, false, List, [], ◌∷◌, take, replicate, Some, Err, sym, refl, ap, ◌∙◌, subst, arith}
 use Rattle.std.specs.List.{slice_get}
 use Rattle.std.proofs.lemmas.List.{take-replicate}
-use Rattle.rules.specs.declared.types.Call.{Call}
-use Rattle.rules.specs.declared.types.Call.TheVariants.{Open, Read, Write, Close, Push, Jolt, Again, Drop}
+use Rattle.parts.specs.declared.calls.Call.{Call}
+use Rattle.parts.specs.declared.calls.Call.TheVariants.{Open, Read, Write, Close, Push, Jolt, Again, Drop}
 use Rattle.rules.specs.declared.types.Caller.{Caller}
 use Rattle.rules.specs.declared.types.Lent.{Lent}
 use Rattle.rules.specs.declared.types.Lent.TheVariants as lent
@@ -35,7 +35,7 @@ use Rattle.rules.proofs.StepPush.{keep-push}
 
 module _ {W : Type 0} (kit : Kit W) (law : Lawful kit) (start : List W) where
   -- a refusal leaves the history as it is
-  refused-entry : (l : History W) (k : ℕ) (call : Call W) (e : Refusal) → entered l k call (Err e) ≡ l
+  refused-entry : (l : History W) (k : ℕ) (call : Call ℕ W) (e : Refusal) → entered l k call (Err e) ≡ l
   refused-entry l k Open e = refl
   refused-entry l k (Read c) e = refl
   refused-entry l k (Write c w) e = refl
@@ -46,7 +46,7 @@ module _ {W : Type 0} (kit : Kit W) (law : Lawful kit) (start : List W) where
   refused-entry l k Drop e = refl
 
   module _ (b : Bench W) (l : History W) (inv : Inv kit start (view b) l) (bounds : InBounds b.table) (who : Caller) where
-    keep-granted : (call : Call W) → Admitted b who call → Keeps kit start l who.head call (granted_of kit b who.head call)
+    keep-granted : (call : Call ℕ W) → Admitted b who call → Keeps kit start l who.head call (granted_of kit b who.head call)
     keep-granted Open a = keep-open kit law start b l inv bounds a.lists who.head a.head a.taken a.free
     keep-granted (Read c) a = keep-read kit law start b l inv bounds a.lists who.head a.head c a.taken a.free a.slot
     keep-granted (Write c w) a = keep-write kit law start b l inv bounds a.lists who.head a.head c w a.taken a.slot
@@ -57,7 +57,7 @@ module _ {W : Type 0} (kit : Kit W) (law : Lawful kit) (start : List W) where
     keep-granted Drop a = keep-drop kit law start b l inv bounds a.lists who.head a.head a.taken
 
     -- a refused call keeps it, since nothing changes
-    pub keep-call : (call : Call W) → Keeps kit start l who.head call (call_of kit b who call)
+    pub keep-call : (call : Call ℕ W) → Keeps kit start l who.head call (call_of kit b who call)
     keep-call call =
         by_call kit b who call (Keeps kit start l who.head call)
         (λ e _. subst (Inv kit start (view b)) (sym (refused-entry l who.head call e)) inv) (λ none. keep-granted call (admitted b who call none))

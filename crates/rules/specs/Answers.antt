@@ -1,8 +1,8 @@
 -- One answer for all calls: its number and its value, as a run sheet shows them.
 use Rattle.std.specs.Prelude.{ℕ, Some, None, Ok, Err, Option, Result}
 use Rattle.parts.specs.Causes.{cause_number, mode_number}
-use Rattle.rules.specs.declared.types.Call.{Call}
-use Rattle.rules.specs.declared.types.Call.TheVariants.{Open, Read, Write, Close, Push, Jolt, Again, Drop}
+use Rattle.parts.specs.declared.calls.Call.{Call}
+use Rattle.parts.specs.declared.calls.Call.TheVariants.{Open, Read, Write, Close, Push, Jolt, Again, Drop}
 use Rattle.rules.specs.declared.types.Caller.{Caller}
 use Rattle.rules.specs.declared.types.Closing.{Closing}
 use Rattle.rules.specs.declared.types.Closing.TheVariants as closing
@@ -26,7 +26,7 @@ abbrev pub answered : {A W : Type 0} → (A → Granted W) → Outcome A W → A
 answered give o = (answer_by give o.answer, o.left)
 
 -- any of the eight calls
-abbrev pub call_of : {W : Type 0} → Kit W → Bench W → Caller → Call W → Answer W × Bench W
+abbrev pub call_of : {W : Type 0} → Kit W → Bench W → Caller → Call ℕ W → Answer W × Bench W
 call_of kit b who Open = answered granted.Begun (open_of kit b who)
 call_of kit b who (Read c) = answered granted.Word (read_of kit b who c)
 call_of kit b who (Write c w) = answered (λ _. granted.Done) (write_of kit b who c w)

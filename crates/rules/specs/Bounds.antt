@@ -1,7 +1,7 @@
 -- How large a rig's numbers get, whatever the lists hold: no number ever runs over.
 use Rattle.std.specs.Prelude.{◌≡◌, ℕ, ◌+◌, ◌/◌, ◌≤◌, cond, List, [], ◌∷◌, length, Ok}
 use Rattle.std.specs.List.{AllByRecursion}
-use Rattle.rules.specs.declared.types.Call.{Call}
+use Rattle.parts.specs.declared.calls.Call.{Call}
 use Rattle.rules.specs.declared.types.Caller.{Caller}
 use Rattle.rules.specs.declared.types.Head.{Head}
 use Rattle.rules.specs.declared.types.Table.{Table}
@@ -42,5 +42,5 @@ BoundsAtSetUp = (heads cells : ℕ) (t : Table) → set_up heads cells ≡ Ok t 
 
 abbrev pub BoundsKept : (W : Type 0) → Kit W → Type 0
 BoundsKept W kit =
-    (b : Bench W) (who : Caller) (call : Call W) → InBounds b.table
+    (b : Bench W) (who : Caller) (call : Call ℕ W) → InBounds b.table
     → InBounds (call_of kit b who call).1.table × SameLengths b (call_of kit b who call).1

@@ -1,10 +1,10 @@
 -- Runs computed by the rule book: two heads and two cells, on the lines board under a margin, with the plain policy.
 use Rattle.std.specs.Prelude.{◌≡◌, ℕ, List, [], ◌∷◌, map, replicate, ℤ, pos, Some, None, Ok, Err, Option}
-use Rattle.parts.specs.Words.{same_amount}
+use Rattle.std.specs.Ordering.{int_eq}
 use Rattle.parts.specs.Boards.{lines_line, lines_fit, with_margin}
 use Rattle.parts.specs.Policies.{plain_mode}
-use Rattle.rules.specs.declared.types.Call.{Call}
-use Rattle.rules.specs.declared.types.Call.TheVariants.{Open, Read, Write, Close, Push, Jolt, Again}
+use Rattle.parts.specs.declared.calls.Call.{Call}
+use Rattle.parts.specs.declared.calls.Call.TheVariants.{Open, Read, Write, Close, Push, Jolt, Again}
 use Rattle.rules.specs.declared.types.Lent.TheVariants as lent
 use Rattle.rules.specs.declared.types.Made.{Made}
 use Rattle.rules.specs.Kit.{Kit}
@@ -16,9 +16,9 @@ use Rattle.rules.specs.Answers.{Answer, answer_number, granted_value, refusal_va
 use Rattle.rules.specs.Runs.{answers_of, left_by}
 
 abbrev pub lines_plain : Kit ℤ
-lines_plain = record { same = same_amount; line = lines_line; fits = with_margin lines_fit; next = plain_mode; patience = 3 }
+lines_plain = record { same = int_eq; line = lines_line; fits = with_margin lines_fit; next = plain_mode; patience = 3 }
 
-abbrev pub by_head : ℕ → Call ℤ → Made ℤ
+abbrev pub by_head : ℕ → Call ℕ ℤ → Made ℤ
 by_head k call = record { lent = lent.Right; caller = by_number k; call = call }
 
 abbrev pub two_cells : ℕ → ℕ → Bench ℤ
@@ -39,7 +39,7 @@ pub record Row : Type 0 where
   pub number : ℕ
   pub value : Option ℤ
 
-abbrev pub row : ℕ → Call ℤ → ℕ → Option ℤ → Row
+abbrev pub row : ℕ → Call ℕ ℤ → ℕ → Option ℤ → Row
 row k call n v = record { made = by_head k call; number = n; value = v }
 
 -- the rule book answers the calls of these rows, from these cells on, with their numbers and values, and leaves those cells

@@ -1,8 +1,8 @@
 -- Laws of single calls that can be told at a glance.
 use Rattle.std.specs.Prelude.{◌≡◌, ℕ, ◌<◌, Bool, true, false, ◌&&◌, ◌⊎◌, Err, ◌≢◌}
 use Rattle.parts.specs.declared.types.Cause.{Cause}
-use Rattle.rules.specs.declared.types.Call.{Call}
-use Rattle.rules.specs.declared.types.Call.TheVariants.{Open, Read, Write, Close, Push, Jolt, Again, Drop}
+use Rattle.parts.specs.declared.calls.Call.{Call}
+use Rattle.parts.specs.declared.calls.Call.TheVariants.{Open, Read, Write, Close, Push, Jolt, Again, Drop}
 use Rattle.rules.specs.declared.types.Caller.{Caller}
 use Rattle.rules.specs.declared.types.Refusal.{Refusal}
 use Rattle.rules.specs.declared.types.Refusal.TheVariants as refuse
@@ -16,16 +16,16 @@ use Rattle.rules.specs.History.{is_granted}
 -- a refusal other than 6 changes nothing
 abbrev pub RefusalsChangeNothing : (W : Type 0) → Kit W → Type 0
 RefusalsChangeNothing W kit =
-    (b : Bench W) (who : Caller) (call : Call W) (e : Refusal) → (call_of kit b who call).0 ≡ Err e
+    (b : Bench W) (who : Caller) (call : Call ℕ W) (e : Refusal) → (call_of kit b who call).0 ≡ Err e
     → ((cause : Cause) → e ≢ refuse.Aborted cause) → (call_of kit b who call).1 ≡ b
 
 -- a call with a list of wrong length is refused with 2, whatever else is wrong with it
 abbrev pub WrongListsRefused : (W : Type 0) → Kit W → Type 0
 WrongListsRefused W kit =
-    (b : Bench W) (who : Caller) (call : Call W) → lists_fit b ≡ false → call_of kit b who call ≡ (Err refuse.Lists, b)
+    (b : Bench W) (who : Caller) (call : Call ℕ W) → lists_fit b ≡ false → call_of kit b who call ≡ (Err refuse.Lists, b)
 
 -- only a hardware close and a push put words into the cells
-abbrev pub may_write : {W : Type 0} → Bench W → ℕ → Call W → Bool
+abbrev pub may_write : {W : Type 0} → Bench W → ℕ → Call ℕ W → Bool
 may_write b k Open = false
 may_write b k (Read c) = false
 may_write b k (Write c w) = false
@@ -38,25 +38,25 @@ may_write b k Drop = false
 -- the cells change only in such a call, and only where it is granted
 abbrev pub CellsChangeByCommits : (W : Type 0) → Kit W → Type 0
 CellsChangeByCommits W kit =
-    (b : Bench W) (who : Caller) (call : Call W) → (is_granted (call_of kit b who call).0 && may_write b who.head call) ≡ false
+    (b : Bench W) (who : Caller) (call : Call ℕ W) → (is_granted (call_of kit b who call).0 && may_write b who.head call) ≡ false
     → (call_of kit b who call).1.cells ≡ b.cells
 
 -- a call changes another head only by aborting it in hardware
 abbrev pub OthersOnlyAbort : (W : Type 0) → Kit W → Type 0
 OthersOnlyAbort W kit =
-    (b : Bench W) (who : Caller) (call : Call W) (j : ℕ) → (j ≢ who.head)
+    (b : Bench W) (who : Caller) (call : Call ℕ W) (j : ℕ) → (j ≢ who.head)
     → (head_at (call_of kit b who call).1 j ≡ head_at b j)
     ⊎ ((is_hardware (head_at b j).state ≡ true) × ((cause : Cause) × (head_at (call_of kit b who call).1 j ≡ abort cause (head_at b j))))
 
 -- a handle calls as its head does, as long as its transaction is its head's
 abbrev pub HandlesCallAsHeads : (W : Type 0) → Kit W → Type 0
 HandlesCallAsHeads W kit =
-    (b : Bench W) (k n : ℕ) (call : Call W) → n ≡ (head_at b k).transaction → call_of kit b (by_handle k n) call ≡ call_of kit b (by_number k) call
+    (b : Bench W) (k n : ℕ) (call : Call ℕ W) → n ≡ (head_at b k).transaction → call_of kit b (by_handle k n) call ≡ call_of kit b (by_number k) call
 
 -- else it is refused with 12, where there is such a head
 abbrev pub StaleHandlesRefused : (W : Type 0) → Kit W → Type 0
 StaleHandlesRefused W kit =
-    (b : Bench W) (k n : ℕ) (call : Call W) → lists_fit b ≡ true → k < b.table.head_count → (n ≢ (head_at b k).transaction)
+    (b : Bench W) (k n : ℕ) (call : Call ℕ W) → lists_fit b ≡ true → k < b.table.head_count → (n ≢ (head_at b k).transaction)
     → call_of kit b (by_handle k n) call ≡ (Err refuse.StaleHandle, b)
 
 pub record CallLaws (W : Type 0) (kit : Kit W) : Type 0 where

@@ -1,7 +1,7 @@
 -- What calls and answers alone tell of a run: the commits in their order, every attempt and every transaction.
 use Rattle.std.specs.Prelude.{ℕ, ◌+◌, Bool, true, false, cond, not, ◌&&◌, List, [], ◌∷◌, ◌++◌, length, take, drop, Some, None, Ok, Err, filter, Option, ◌==◌}
-use Rattle.rules.specs.declared.types.Call.{Call}
-use Rattle.rules.specs.declared.types.Call.TheVariants.{Open, Read, Write, Close, Push, Jolt, Again, Drop}
+use Rattle.parts.specs.declared.calls.Call.{Call}
+use Rattle.parts.specs.declared.calls.Call.TheVariants.{Open, Read, Write, Close, Push, Jolt, Again, Drop}
 use Rattle.rules.specs.declared.types.Closing.{Closing}
 use Rattle.rules.specs.declared.types.Closing.TheVariants as closing
 use Rattle.rules.specs.declared.types.Granted.TheVariants as granted
@@ -186,7 +186,7 @@ module _ {W : Type 0} (l : History W) (k : ℕ) where
   by_closing (Some how) = after_close how
 
   -- the history after one more call of the head k and its answer
-  abbrev pub entered : Call W → Answer W → History W
+  abbrev pub entered : Call ℕ W → Answer W → History W
   entered Open answer = cond (is_granted answer) after_open l
   entered (Read c) answer = by_word (word_given answer) c
   entered (Write c w) answer = cond (is_granted answer) (after_write c w) l

@@ -1,7 +1,7 @@
 -- When a call is refused, and with what.
 use Rattle.std.specs.Prelude.{ℕ, ◌*◌, Bool, true, false, cond, not, ◌&&◌, ◌||◌, List, [], ◌∷◌, length, Some, None, Option, ◌==◌, nat_le}
-use Rattle.rules.specs.declared.types.Call.{Call}
-use Rattle.rules.specs.declared.types.Call.TheVariants.{Open, Read, Write, Close, Push, Jolt, Again, Drop}
+use Rattle.parts.specs.declared.calls.Call.{Call}
+use Rattle.parts.specs.declared.calls.Call.TheVariants.{Open, Read, Write, Close, Push, Jolt, Again, Drop}
 use Rattle.rules.specs.declared.types.Caller.{Caller}
 use Rattle.rules.specs.declared.types.Refusal.{Refusal}
 use Rattle.rules.specs.declared.types.Refusal.TheVariants as refuse
@@ -31,7 +31,7 @@ is_stale None h = false
 is_stale (Some n) h = not (n == h.transaction)
 
 -- whether the call names a cell beyond these
-abbrev pub is_beyond : {W : Type 0} → ℕ → Call W → Bool
+abbrev pub is_beyond : {W : Type 0} → ℕ → Call ℕ W → Bool
 is_beyond cells Open = false
 is_beyond cells (Read c) = nat_le cells c
 is_beyond cells (Write c w) = nat_le cells c
@@ -42,7 +42,7 @@ is_beyond cells Again = false
 is_beyond cells Drop = false
 
 -- which states take each call
-abbrev pub takes : {W : Type 0} → Call W → State → Bool
+abbrev pub takes : {W : Type 0} → Call ℕ W → State → Bool
 takes Open s = is_idle s
 takes (Read c) s = is_hardware s || is_software s
 takes (Write c w) s = is_hardware s || is_software s
@@ -53,7 +53,7 @@ takes Again s = is_aborted s
 takes Drop s = is_hardware s || (is_software s || is_aborted s)
 
 -- calls to which an aborted head tells its cause
-abbrev pub hears_cause : {W : Type 0} → Call W → Bool
+abbrev pub hears_cause : {W : Type 0} → Call ℕ W → Bool
 hears_cause Open = false
 hears_cause (Read c) = true
 hears_cause (Write c w) = true
@@ -64,7 +64,7 @@ hears_cause Again = false
 hears_cause Drop = false
 
 -- why a state does not take a call
-abbrev pub why_not : {W : Type 0} → Call W → State → Refusal
+abbrev pub why_not : {W : Type 0} → Call ℕ W → State → Refusal
 why_not call Idle = refuse.NotTaken
 why_not call Hardware = refuse.NotTaken
 why_not call Software = refuse.NotTaken
@@ -73,7 +73,7 @@ why_not call WritingBack = refuse.NotTaken
 
 module _ {W : Type 0} (b : Bench W) (k : ℕ) where
   -- calls that wait while a software commit writes back: a read that the write log answers does not, nor a close without writes
-  abbrev pub waits : Call W → Bool
+  abbrev pub waits : Call ℕ W → Bool
   waits Open = true
   waits (Read c) = is_software (head_at b k).state && not (names c (write_log b k))
   waits (Write c w) = false
@@ -84,7 +84,7 @@ module _ {W : Type 0} (b : Bench W) (k : ℕ) where
   waits Drop = false
 
   -- calls that need a slot where there is none left
-  abbrev pub lacks_slot : Call W → Bool
+  abbrev pub lacks_slot : Call ℕ W → Bool
   lacks_slot Open = false
   lacks_slot (Read c) = not (names c (write_log b k)) && is_full c (read_log b k)
   lacks_slot (Write c w) = is_full c (write_log b k)
@@ -94,7 +94,7 @@ module _ {W : Type 0} (b : Bench W) (k : ℕ) where
   lacks_slot Again = false
   lacks_slot Drop = false
 
-  abbrev pub lacks_transaction : Call W → Bool
+  abbrev pub lacks_transaction : Call ℕ W → Bool
   lacks_transaction Open = nat_le 60_000 b.table.opened
   lacks_transaction (Read c) = false
   lacks_transaction (Write c w) = false
@@ -104,7 +104,7 @@ module _ {W : Type 0} (b : Bench W) (k : ℕ) where
   lacks_transaction Again = false
   lacks_transaction Drop = false
 
-  abbrev pub lacks_attempt : Call W → Bool
+  abbrev pub lacks_attempt : Call ℕ W → Bool
   lacks_attempt Open = false
   lacks_attempt (Read c) = false
   lacks_attempt (Write c w) = false
@@ -125,7 +125,7 @@ first (None ∷ rows) = first rows
 first (Some e ∷ rows) = Some e
 
 -- all that can refuse a call, in the order in which it is looked for; an abort made in the call itself comes after all of these
-module _ {W : Type 0} (b : Bench W) (who : Caller) (call : Call W) where
+module _ {W : Type 0} (b : Bench W) (who : Caller) (call : Call ℕ W) where
   abbrev pub refusals : List (Option Refusal)
   refusals =
       when (not (lists_fit b)) refuse.Lists

@@ -1,5 +1,5 @@
 // The plain data of the rig.
-use parts::{Cause, Mode};
+use parts::{Call, Cause, Mode};
 
 // What a head is doing.
 #[derive(Clone, Copy)]
@@ -74,19 +74,6 @@ pub struct Caller {
     pub transaction: Option<u32>,
 }
 
-// The eight calls. The usual terms are begin, read, write, commit, write back one slot, interrupt, retry and cancel.
-#[derive(Clone, Copy)]
-pub enum Call<W> {
-    Open,
-    Read(u32),
-    Write(u32, W),
-    Close,
-    Push,
-    Jolt,
-    Again,
-    Drop,
-}
-
 // A granted close, with the attempts of the transaction: done, or its writes are still to be pushed.
 #[derive(Clone, Copy)]
 pub enum Closing {
@@ -143,5 +130,5 @@ pub enum Lent {
 pub struct Made<W> {
     pub lent: Lent,
     pub caller: Caller,
-    pub call: Call<W>,
+    pub call: Call<u32, W>,
 }
