@@ -1,5 +1,8 @@
 -- What a rig is over: a kind of word, a board and a policy.
 use Rattle.std.specs.Prelude.{◌≡◌, ℕ, ◌≤◌, Bool, Decides}
+use Rattle.std.specs.declared.cmp.PartialEq.{Ghosts as Equality}
+use Rattle.parts.specs.declared.boards.Board.{Ghosts as Boards}
+use Rattle.parts.specs.declared.policies.Policy.{Ghosts as Policies}
 use Rattle.parts.specs.declared.types.Cause.{Cause}
 use Rattle.parts.specs.declared.types.Mode.{Mode}
 use Rattle.parts.specs.declared.types.Mode.TheVariants as mode
@@ -12,15 +15,14 @@ pub record Kit (W : Type 0) : Type 0 where
   pub next : Cause → ℕ → Mode
   pub patience : ℕ
 
--- by the meanings of a kind of word, a kind of board and a kind of policy, for one board and one policy
-abbrev pub kit_of : {W B P : Type 0} → (W → W → Bool) → (B → ℕ → ℕ) → (B → ℕ → ℕ → Bool) → (P → Cause → ℕ → Mode) → (P → ℕ)
-    → B → P → Kit W
-kit_of alike lined fitting answer patient board policy = record {
-  same = alike;
-  line = lined board;
-  fits = fitting board;
-  next = answer policy;
-  patience = patient policy;
+-- by what a kind of word, a kind of board and a kind of policy mean, for one board and one policy
+abbrev pub kit_of : {W B P : Type 0} → Equality W → Boards B → Policies P → B → P → Kit W
+kit_of words boards policies board policy = record {
+  same = words.eq;
+  line = boards.lined board;
+  fits = boards.fitting board;
+  next = policies.answer policy;
+  patience = policies.patient policy;
 }
 
 -- what the traits' laws say of it

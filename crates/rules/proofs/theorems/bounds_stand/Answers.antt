@@ -5,5 +5,5 @@ use Rattle.rules.proofs.theorems.bounds_stand.Goals as goal
 pub returns : goal.returns
 returns g c = record {
   set_up = bounds-at-set-up;
-  calls = bounds-kept (kit_of g.W.PartialEq.eq g.B.Board.lined g.B.Board.fitting g.P.Policy.answer g.P.Policy.patient c.args.board.now c.args.policy.now);
+  calls = bounds-kept (kit_of g.W.PartialEq g.B.Board g.P.Policy c.args.board.now c.args.policy.now);
 }
