@@ -7,16 +7,16 @@ use Rattle.rules.specs.declared.types.Caller.{Caller}
 use Rattle.rules.specs.declared.types.Refusal.{Refusal}
 use Rattle.rules.specs.Bench.{Bench, head_at, is_odd}
 use Rattle.rules.specs.Refusals.{lists_fit, is_stale, is_beyond, takes, waits, lacks_slot, lacks_transaction, lacks_attempt, when, first, refusals, refusal}
-use Rattle.rules.proofs.Basics.{none-some}
+
 
 when-none : (b : Bool) (e : Refusal) → when b e ≡ None → b ≡ false
-when-none true e q = none-some e (sym q)
+when-none true e q = cc
 when-none false e q = refl
 
 first-none : (rows : List (Option Refusal)) → first rows ≡ None → AllByRecursion (λ r. r ≡ None) rows
 first-none [] e = tt
 first-none (None ∷ rows) e = (refl, first-none rows e)
-first-none (Some x ∷ rows) e = none-some x (sym e)
+first-none (Some x ∷ rows) e = cc
 
 -- the lists have their lengths
 pub record Sized {W : Type 0} (b : Bench W) : Type 0 where

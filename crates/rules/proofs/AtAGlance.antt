@@ -21,7 +21,7 @@ use Rattle.rules.specs.Calls.{Outcome}
 use Rattle.rules.specs.Answers.{Answer, answered, call_of}
 use Rattle.rules.specs.History.{is_granted}
 use Rattle.rules.specs.Glance.{RefusalsChangeNothing, WrongListsRefused, may_write, CellsChangeByCommits, OthersOnlyAbort, HandlesCallAsHeads, StaleHandlesRefused, CallLaws}
-use Rattle.rules.proofs.Basics.{none-some, some_same, wrong}
+use Rattle.rules.proofs.Basics.{wrong}
 use Rattle.rules.proofs.Sweeps.{Hit, Swept, swept_none, swept-lock, swept_at}
 use Rattle.rules.proofs.Cases.{granted_of, by_call, by_read, by-write, by-close}
 
@@ -31,10 +31,10 @@ Stays b r = (e : Refusal) → r.0 ≡ Err e → ((cause : Cause) → e ≡ refus
 
 module _ {W : Type 0} (kit : Kit W) (b : Bench W) where
   stays-granted : (g : Granted W) (left : Bench W) → Stays b (Ok g, left)
-  stays-granted g left e q not-abort = let z : ◌≡◌ {A = ℕ} 0 1 = cc in absurd (omega arith)
+  stays-granted g left e q not-abort = cc
 
   stays-abort : (cause : Cause) (left : Bench W) → Stays b (Err (refuse.Aborted cause), left)
-  stays-abort cause left e q not-abort = let z : e ≡ refuse.Aborted cause = cc in absurd (not-abort cause z)
+  stays-abort cause left e q not-abort = absurd (not-abort cause cc)
 
   stays : (k : ℕ) (call : Call ℕ W) → Stays b (granted_of kit b k call)
   stays k Open = stays-granted _ _
@@ -64,8 +64,8 @@ pub wrong-lists-refused : {W : Type 0} (kit : Kit W) → WrongListsRefused W kit
 wrong-lists-refused {W} kit b who call f =
     let is : refusal b who call ≡ Some refuse.Lists = when-first (not (lists_fit b)) refuse.Lists _ (not_from_false (lists_fit b) f) in
     by_call kit b who call (λ (r : Answer W × Bench W). r ≡ (Err refuse.Lists, b))
-    (λ e q. ap (λ (x : Refusal). (Err x, b)) (some_same e refuse.Lists (sym q ∙ is)))
-    (λ q. none-some refuse.Lists (sym q ∙ is))
+    (λ e q. cc)
+    (λ q. cc)
 
 module _ {W : Type 0} (kit : Kit W) (b : Bench W) (k : ℕ) where
   cells_stay : (call : Call ℕ W) → (is_granted (granted_of kit b k call).0 && may_write b k call) ≡ false → (granted_of kit b k call).1.cells ≡ b.cells

@@ -1,7 +1,9 @@
 -- What the rules' proof needs of lists, tests and options.
 use Rattle.std.proofs.Common.{◌≡◌, ℕ, zero, suc, Bool, true, false, ◌||◌, ◌⊎◌, List, [], ◌∷◌, ◌++◌, map, set, Some, None, Option, sym, refl, ap, ◌∙◌, subst, inl, inr, ⊎_elim, arith}
 use Rattle.std.specs.List.{slice_get, AllByRecursion}
+use Rattle.std.specs.Option.{option_map}
 use Rattle.std.proofs.lemmas.Bool.{cases_eq, or_parts, false≢true}
+use Rattle.std.proofs.lemmas.Option.{slice_get-map}
 use Rattle.rules.specs.Logs.{any}
 
 -- a property of what a test or an option decides
@@ -16,15 +18,9 @@ by-option (Some x) P p q = q x refl
 pub wrong : {X : Type 0} → false ≡ true → X
 wrong e = absurd (false≢true e)
 
-pub some_same : {X : Type 0} (x y : X) → Some x ≡ Some y → x ≡ y
-some_same x y e = cc
-
-pub none-some : {X A : Type 0} (x : X) → None ≡ Some x → A
-none-some x e = let z : ◌≡◌ {A = ℕ} 0 1 = cc in absurd (omega arith)
-
 module _ {X : Type 0} where
   pub nth-set-same : (xs : List X) (i : ℕ) (x y : X) → slice_get xs i ≡ Some y → slice_get (set xs i x) i ≡ Some x
-  nth-set-same [] i x y e = none-some y e
+  nth-set-same [] i x y e = cc
   nth-set-same (z ∷ xs) zero x y e = refl
   nth-set-same (z ∷ xs) (suc i) x y e = nth-set-same xs i x y e
 
@@ -45,14 +41,12 @@ module _ {X : Type 0} where
   any_none p (x ∷ xs) e = let h = or_parts (p x) (any p xs) e in (h.0, any_none p xs h.1)
 
   pub all-map-get : {Y : Type 0} (f : X → Y) (xs : List X) (k : ℕ) (y : Y) → slice_get (map f xs) k ≡ Some y → (x : X) × (slice_get xs k ≡ Some x) × (y ≡ f x)
-  all-map-get f [] k y e = none-some y e
-  all-map-get f (x ∷ xs) zero y e = (x, refl, sym (some_same (f x) y e))
+  all-map-get f [] k y e = cc
+  all-map-get f (x ∷ xs) zero y e = (x, refl, cc)
   all-map-get f (x ∷ xs) (suc k) y e = all-map-get f xs k y e
 
   pub nth-map-some : {Y : Type 0} (f : X → Y) (xs : List X) (k : ℕ) (x : X) → slice_get xs k ≡ Some x → slice_get (map f xs) k ≡ Some (f x)
-  nth-map-some f [] k x e = none-some x e
-  nth-map-some f (z ∷ xs) zero x e = ap (λ (y : X). Some (f y)) (some_same z x e)
-  nth-map-some f (z ∷ xs) (suc k) x e = nth-map-some f xs k x e
+  nth-map-some f xs k x e = slice_get-map f xs k ∙ ap (option_map f) e
 
   pub all_both : (P Q R : X → Type 0) → ((x : X) → P x → Q x → R x) → (xs : List X) → AllByRecursion P xs → AllByRecursion Q xs → AllByRecursion R xs
   all_both P Q R f [] p q = tt
@@ -73,7 +67,7 @@ after_turn f xs h k me old x here there =
     ⊎_elim
     (λ (e : k ≡ h). let at : slice_get (set (map f xs) h me) h ≡ Some me = nth-set-same (map f xs) h me (f old) (nth-map-some f xs h old here) in
     let now : slice_get (set (map f xs) h me) h ≡ Some x = subst (λ i. slice_get (set (map f xs) h me) i ≡ Some x) e there in
-    inl (e, some_same x me (sym now ∙ at)))
+    inl (e, cc))
     (λ (ne : k ≡ h → ⊥). inr (ne, all-map-get f xs k x (sym (nth-set-other (map f xs) h k me (λ e. ne (sym e))) ∙ there)))
     (cases_eq k h)
 

@@ -15,7 +15,7 @@ use Rattle.rules.specs.Bench.{is_odd, is_locked_out}
 use Rattle.rules.proofs.Seats.{Seat, Rig, abort_seat, struck_by, locked}
 use Rattle.rules.specs.History.{History, Commit, Attempt, Ended, Page, cells_after, closes_of_others}
 use Rattle.rules.specs.Laws.{Agrees, Explained, Bounded, most_attempts}
-use Rattle.rules.proofs.Basics.{by-test, wrong, some_same, after-each, nth-set-other, nth-map-some}
+use Rattle.rules.proofs.Basics.{by-test, wrong, after-each, nth-set-other, nth-map-some}
 use Rattle.rules.proofs.Sweeps.{locked-out}
 use Rattle.rules.proofs.HistoryLaws.{count-stable, count-grown, explained-grown}
 use Rattle.rules.proofs.Invariant.{SoftwareOk, HeadOk, Lone, Calm, Clear, Inv}
@@ -152,7 +152,7 @@ module _ {W : Type 0} (heads : List (Seat W)) (cells now : List W) (h : ℕ) (me
   pub lone-kept : is_writing_back me.head.state ≡ false → is_writing_back me'.head.state ≡ false → is_hardware me'.head.state ≡ false → Lone heads cells now → Lone (set (map f heads) h me') cells now
   lone-kept plain plain' rigid c =
       let apart : c.who ≡ h → ⊥ =
-      λ q. let same : c.it ≡ me = some_same c.it me (sym c.there ∙ ap (slice_get heads) q ∙ at) in
+      λ q. let same : c.it ≡ me = cc (ap (slice_get heads) q) in
       wrong (sym plain ∙ subst (λ x. is_writing_back x.head.state ≡ true) same c.is) in
       record {
         no-hardware =

@@ -43,7 +43,7 @@ pub bounds-at-set-up : BoundsAtSetUp
 bounds-at-set-up heads cells t =
     by-test (in_range heads cells) (λ r. cond r (Ok (new_table heads cells)) (Err refuse.OutOfRange) ≡ Ok t → InBounds t)
     (λ r e. let is : new_table heads cells ≡ t = cc in rw (← is) (new r))
-    (λ _ e. let z : ◌≡◌ {A = ℕ} 0 1 = cc in absurd (omega arith))
+    (λ _ e. cc)
   where
     new : in_range heads cells ≡ true → InBounds (new_table heads cells)
     new r =

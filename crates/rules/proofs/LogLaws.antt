@@ -10,7 +10,7 @@ use Rattle.rules.specs.Kit.{Kit, Lawful}
 use Rattle.rules.specs.Bench.{Bench, holds, holds_same}
 use Rattle.rules.specs.Laws.{Agrees}
 use Rattle.rules.proofs.Seats.{meets}
-use Rattle.rules.proofs.Basics.{by-test, by-option, wrong, none-some, nth-set-other, any_append, any_none, all-append-left, all-append-right, all_both}
+use Rattle.rules.proofs.Basics.{by-test, by-option, wrong, nth-set-other, any_append, any_none, all-append-left, all-append-right, all_both}
 
 -- no two slots name one cell
 abbrev pub Distinct : {W : Type 0} → List (Slot W) → Type 0
@@ -80,10 +80,10 @@ module _ {W : Type 0} where
   word_none c [] e = refl
   word_none c (s ∷ log) q =
       by-test (eqb c s.cell) (λ b. cond b (Some s.word) (word_for c log) ≡ None → (b || names c log) ≡ false)
-      (λ _ e. none-some s.word (sym e)) (λ _ e. word_none c log e) q
+      (λ _ e. cc) (λ _ e. word_none c log e) q
 
   pub word_some : (c : ℕ) (w : W) (log : List (Slot W)) → word_for c log ≡ Some w → names c log ≡ true
-  word_some c w [] e = none-some w e
+  word_some c w [] e = cc
   word_some c w (s ∷ log) q =
       by-test (eqb c s.cell) (λ b. cond b (Some s.word) (word_for c log) ≡ Some w → (b || names c log) ≡ true)
       (λ _ e. refl) (λ _ e. word_some c w log e) q

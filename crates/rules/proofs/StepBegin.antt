@@ -18,7 +18,7 @@ use Rattle.rules.specs.Answers.{answered}
 use Rattle.rules.specs.Bounds.{InBounds}
 use Rattle.rules.specs.History.{History, closes_of_others}
 use Rattle.rules.specs.Laws.{most_attempts}
-use Rattle.rules.proofs.Basics.{wrong, none-some}
+use Rattle.rules.proofs.Basics.{wrong}
 use Rattle.rules.proofs.Admitted.{Sized}
 use Rattle.rules.proofs.Seats.{Seat, Rig, view, seat_of, meets}
 use Rattle.rules.proofs.Views.{seat-there, untouched}
@@ -26,9 +26,6 @@ use Rattle.rules.proofs.Invariant.{Inv}
 use Rattle.rules.proofs.Frames.{struck-same, head-aborts, hardware-not-writing}
 use Rattle.rules.proofs.Turns.{quiet_at, turned-here, turned-other, all_true, going-plain, aborted-going, idle-plain}
 use Rattle.rules.proofs.Keeping.{by_mode, Keeps, keep-alone}
-
-no_mode : {X : Type 0} → mode.Software ≡ mode.Hardware → X
-no_mode e = let z : ◌≡◌ {A = ℕ} 0 1 = cc in absurd (omega arith)
 
 module _ {W : Type 0} (kit : Kit W) (law : Lawful kit) (start : List W) (b : Bench W) (l : History W) (inv : Inv kit start (view b) l) (bounds : InBounds b.table) (lists : Sized b)
     (h : ℕ) (lt : h < b.table.head_count) where
@@ -58,7 +55,7 @@ module _ {W : Type 0} (kit : Kit W) (law : Lawful kit) (start : List W) (b : Ben
         aborted = λ e. wrong e;
       })
       plain refl (λ _. refl) (λ k it there ne hm. wrong hm) inv.past (inv.present h)
-      ((inv.bound h, λ n e. none-some n e), inv.ended) (inv.bound h))
+      ((inv.bound h, λ n e. cc), inv.ended) (inv.bound h))
 
   pub keep-jolt : is_hardware me.head.state ≡ true → Keeps kit start l h Jolt (answered (λ _. granted.Done) (granted_jolt b h))
   keep-jolt hardware =
@@ -86,23 +83,23 @@ module _ {W : Type 0} (kit : Kit W) (law : Lawful kit) (start : List W) (b : Ben
       })
       (idle-plain me.head.state idle) refl (λ o. wrong (sym even ∙ o))
       (λ k it there ne hm hi hf. (tt, all_true (λ s. meets kit s.cell [] ≡ false) (λ s. refl) it.writes))
-      (inv.present h, inv.past) (n, omega arith, omega arith, tt, λ q e. none-some q e) inv.ended (omega arith))
+      (inv.present h, inv.past) (n, omega arith, omega arith, tt, λ q e. cc) inv.ended (omega arith))
 
   -- a policy that says hardware has patience left
   patient : (c : Cause) → kit.next c me.head.aborts ≡ mode.Hardware → me.head.aborts < kit.patience
   patient c e =
-      ⊎_elim (λ (lt : me.head.aborts < kit.patience). lt) (λ (ge : kit.patience ≤ me.head.aborts). no_mode (sym (law.ends c me.head.aborts ge) ∙ e)) (cases_lt me.head.aborts kit.patience)
+      ⊎_elim (λ (lt : me.head.aborts < kit.patience). lt) (λ (ge : kit.patience ≤ me.head.aborts). cc (law.ends c me.head.aborts ge)) (cases_lt me.head.aborts kit.patience)
 
   stays-hardware : (s : State) → next_mode kit.next me.head.aborts s ≡ mode.Hardware → me.head.aborts < kit.patience
-  stays-hardware Idle e = no_mode e
-  stays-hardware Hardware e = no_mode e
-  stays-hardware Software e = no_mode e
+  stays-hardware Idle e = cc
+  stays-hardware Hardware e = cc
+  stays-hardware Software e = cc
   stays-hardware (Aborted Conflict) e = patient Conflict e
   stays-hardware (Aborted Capacity) e = patient Capacity e
   stays-hardware (Aborted Lock) e = patient Lock e
   stays-hardware (Aborted Other) e = patient Other e
-  stays-hardware (Aborted Changed) e = no_mode e
-  stays-hardware WritingBack e = no_mode e
+  stays-hardware (Aborted Changed) e = cc
+  stays-hardware WritingBack e = cc
 
   pub keep-again : is_aborted me.head.state ≡ true → is_odd m.sequence ≡ false → Keeps kit start l h Again (answered granted.Begun (granted_again kit b h))
   keep-again aborted even =
@@ -128,7 +125,7 @@ module _ {W : Type 0} (kit : Kit W) (law : Lawful kit) (start : List W) (b : Ben
       })
       plain refl (λ o. wrong (sym even ∙ o))
       (λ k it there ne hm hi hf. (tt, all_true (λ s. meets kit s.cell [] ≡ false) (λ s. refl) it.writes))
-      (inv.present h, inv.past) (n, omega arith, omega arith, tt, λ q e. none-some q e) inv.ended bound))
+      (inv.present h, inv.past) (n, omega arith, omega arith, tt, λ q e. cc) inv.ended bound))
       (λ _. keep-alone kit start _ b bounds lists h lt b.table.sequence b.table.commits b.table.opened (begin mode.Software (present b.table) (head_at b h)) b.cells b.reads b.writes (untouched b bounds lists h lt)
       (quiet_at kit start m l inv h me at _ (λ o. o) _ _ _ l.ended struck-same
       (λ k ne. turned-other l.pages h _ k ne) (turned-here l.pages h _)
@@ -156,4 +153,4 @@ module _ {W : Type 0} (kit : Kit W) (law : Lawful kit) (start : List W) (b : Ben
         aborted = λ e. wrong e;
       })
       plain refl (λ _. refl) (λ k it there ne hm. wrong hm)
-      (inv.present h, inv.past) (n, omega arith, omega arith, tt, λ q e. none-some q e) inv.ended bound))
+      (inv.present h, inv.past) (n, omega arith, omega arith, tt, λ q e. cc) inv.ended bound))

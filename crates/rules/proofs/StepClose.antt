@@ -20,7 +20,7 @@ use Rattle.rules.specs.Answers.{answered}
 use Rattle.rules.specs.Bounds.{InBounds}
 use Rattle.rules.specs.History.{History, Commit, Ended, Page, turned, cells_after, closes_of_others}
 use Rattle.rules.specs.Laws.{Agrees, Explained, Bounded, most_attempts}
-use Rattle.rules.proofs.Basics.{wrong, some_same, nth-set-same, nth-map-some, after-each}
+use Rattle.rules.proofs.Basics.{wrong, nth-set-same, nth-map-some, after-each}
 use Rattle.rules.proofs.Admitted.{Sized}
 use Rattle.rules.proofs.Seats.{Seat, Rig, view, seat_of, loaded, locked, map_at-twice}
 use Rattle.rules.proofs.Views.{seat-there, untouched, conflict-seen, locks-seen}
@@ -111,7 +111,7 @@ module _ {W : Type 0} (kit : Kit W) (law : Lawful kit) (start : List W) (b : Ben
   ended-ok writing =
       let o = inv.heads h me at in
       let stable = count-stable l.closes (commit ∷ []) h (l.pages h).since n (omega arith) in (
-        (omega (arith, inv.bound h), λ k e. sym (some_same me.head.attempts k e) ∙ sym o.attempts),
+        (omega (arith, inv.bound h), λ k e. cc),
         All-weaker (Bounded start l kit.patience) (Bounded start (l' writing) kit.patience) (λ x b. bounded-grown start l (l' writing) (commit ∷ []) kit.patience x refl b) l.ended inv.ended,
       )
 
@@ -129,7 +129,7 @@ module _ {W : Type 0} (kit : Kit W) (law : Lawful kit) (start : List W) (b : Ben
         subst (λ xs. Agrees xs (l.pages h).attempt.reads)
             (settled-all kit law start b l inv h at even ∙ ap (λ cs. cells_after cs start) (sym (take-append-le n l.closes (commit ∷ []) (omega arith))))
             (((inv.heads h me at).live running).reads m.cells valid),
-        λ q e _. some_same n q e,
+        λ q e _. cc,
       )
 
   -- the log put into the cells is the commit put in after the closes

@@ -1,6 +1,7 @@
 -- A granted push.
 use Rattle.std.proofs.Common.{◌≡◌, ℕ, ◌+◌, ◌-◌, ◌%◌, ◌<◌, Bool, true, false, cond, eqb, leb, List, [], map, length, take, drop, set, Some, sym, refl, ap, ◌∙◌, subst, append-nil, arith, take-append-drop}
 use Rattle.std.specs.List.{slice_get}
+use Rattle.std.proofs.lemmas.Option.{same_Some}
 use Rattle.std.proofs.lemmas.Bool.{eqb-true, eq-eqb, ne_eqb, leb-true, leb-false}
 use Rattle.std.proofs.lemmas.List.{drop-drop, drop_all}
 use Rattle.parts.specs.declared.calls.Call.TheVariants.{Push}
@@ -16,7 +17,7 @@ use Rattle.rules.specs.Calls.{granted_push}
 use Rattle.rules.specs.Answers.{answered}
 use Rattle.rules.specs.Bounds.{InBounds}
 use Rattle.rules.specs.History.{History, Page, turned, cells_after}
-use Rattle.rules.proofs.Basics.{by-test, wrong, some_same, nth-set-same, nth-map-some, after-each}
+use Rattle.rules.proofs.Basics.{by-test, wrong, nth-set-same, nth-map-some, after-each}
 use Rattle.rules.proofs.Admitted.{Sized}
 use Rattle.rules.proofs.Seats.{Seat, Rig, view, seat_of}
 use Rattle.rules.proofs.Views.{seat-there, untouched}
@@ -65,7 +66,7 @@ module _ {W : Type 0} (kit : Kit W) (law : Lawful kit) (start : List W) (b : Ben
   who-me = lone.lone h me at writing
 
   it-me : lone.it ≡ me
-  it-me = some_same lone.it me (sym lone.there ∙ ap (slice_get m.heads) (sym who-me) ∙ at)
+  it-me = same_Some lone.it me (sym lone.there ∙ ap (slice_get m.heads) (sym who-me) ∙ at)
 
   abbrev rest : List W
   rest = put_in (take 1 (drop me.head.written me.writes)) m.cells

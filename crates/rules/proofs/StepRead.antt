@@ -16,7 +16,7 @@ use Rattle.rules.specs.Answers.{answered}
 use Rattle.rules.specs.Bounds.{InBounds}
 use Rattle.rules.specs.History.{History, Page, turned, entered}
 use Rattle.rules.specs.Laws.{Agrees, Explained}
-use Rattle.rules.proofs.Basics.{by-option, wrong, none-some, any_none, all_both}
+use Rattle.rules.proofs.Basics.{by-option, wrong, any_none, all_both}
 use Rattle.rules.proofs.Admitted.{Sized}
 use Rattle.rules.proofs.Seats.{Seat, Rig, view, seat_of, seat_at, meets, loaded}
 use Rattle.rules.proofs.Views.{head-bounds, seat-there, read-room, read_length, own-log, untouched, reads-laid, conflict-seen}
@@ -81,7 +81,7 @@ module _ {W : Type 0} (kit : Kit W) (law : Lawful kit) (start : List W) (b : Ben
         omega arith,
         subst (λ xs. Agrees xs ((l.pages h).attempt.reads ++ (slot c w ∷ []))) (settled-all kit law start b l inv h at even)
             (noted-reads c w me.reads (l.pages h).attempt.reads m.cells here valid linked.reads m.cells (agrees-noted c w me.reads m.cells here valid)),
-        λ q e. none-some q (sym linked.unclosed ∙ e),
+        λ q e. cc,
       )
 
   abbrev Kept : Outcome W W → Type 0

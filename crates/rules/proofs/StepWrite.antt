@@ -16,7 +16,7 @@ use Rattle.rules.specs.Answers.{answered}
 use Rattle.rules.specs.Bounds.{InBounds}
 use Rattle.rules.specs.History.{History, Page, entered}
 use Rattle.rules.specs.Laws.{Explained}
-use Rattle.rules.proofs.Basics.{by-test, wrong, none-some}
+use Rattle.rules.proofs.Basics.{by-test, wrong}
 use Rattle.rules.proofs.Admitted.{Sized}
 use Rattle.rules.proofs.Seats.{Seat, Rig, view, seat_of, seat_at, abort_seat, meets, claimed}
 use Rattle.rules.proofs.Views.{head-bounds, seat-there, write-room, write-length, own-log, writes-laid, conflict-seen}
@@ -91,7 +91,7 @@ module _ {W : Type 0} (kit : Kit W) (law : Lawful kit) (start : List W) (b : Ben
   explained-write : Explained start l (more-written c w (l.pages h)).attempt
   explained-write =
       let x = inv.present h in
-      (x.0, x.1, x.2, x.3, λ q e. none-some q (sym ((inv.heads h me at).live running).unclosed ∙ e))
+      (x.0, x.1, x.2, x.3, λ q e. cc ((inv.heads h me at).live running).unclosed)
 
   keep-software : is_software me.head.state ≡ true → Kept (writing kit b h (Ok tt) new b.table.heads x)
   keep-software software =

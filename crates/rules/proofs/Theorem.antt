@@ -20,7 +20,7 @@ use Rattle.rules.specs.Bounds.{InBounds}
 use Rattle.rules.specs.Runs.{made_with, made_on, answers_of, left_by}
 use Rattle.rules.specs.History.{History, blank, nothing_yet, entered, history_of, cells_after}
 use Rattle.rules.specs.Laws.{ThreeLaws}
-use Rattle.rules.proofs.Basics.{by-test, wrong, some_same, none-some}
+use Rattle.rules.proofs.Basics.{by-test, wrong}
 use Rattle.rules.proofs.Admitted.{Admitted, admitted}
 use Rattle.rules.proofs.Cases.{granted_of, by_call}
 use Rattle.rules.proofs.Seats.{Seat, Rig, seats, view}
@@ -89,8 +89,8 @@ module _ {W : Type 0} (kit : Kit W) (law : Lawful kit) (start : List W) where
   }
 
 nth-replicate : {X : Type 0} (n : ℕ) (x y : X) (k : ℕ) → slice_get (replicate n x) k ≡ Some y → y ≡ x
-nth-replicate zero x y k e = none-some y e
-nth-replicate (suc n) x y zero e = sym (some_same x y e)
+nth-replicate zero x y k e = cc
+nth-replicate (suc n) x y zero e = cc
 nth-replicate (suc n) x y (suc k) e = nth-replicate n x y k e
 
 -- at set-up
@@ -112,7 +112,7 @@ module _ {W : Type 0} (kit : Kit W) (start : List W) where
         (record { attempts = refl; since = omega arith; mark = refl; going = λ e. wrong e; live = λ e. wrong e; hardware = λ e. wrong e; software = λ e. wrong e; aborted = λ e. wrong e });
     clear = λ j k me it there _ _ hardware _. wrong (subst (λ x. is_hardware x.head.state ≡ true) (nth-replicate n new_seat me j there) hardware);
     past = tt;
-    present = λ k. (0, omega arith, omega arith, tt, λ q e. none-some q e);
+    present = λ k. (0, omega arith, omega arith, tt, λ q e. cc);
     ended = tt;
     bound = λ k. omega arith;
   }

@@ -19,15 +19,12 @@ use Rattle.rules.proofs.Theorem.{keep_all, gives, new-inv}
 pub set-up-new : (heads count : ℕ) (t : Table) → set_up heads count ≡ Ok t → (t ≡ new_table heads count) × (heads ≤ 8)
 set-up-new heads count t e =
     by-test (in_range heads count) (λ r. in_range heads count ≡ r → cond r (Ok (new_table heads count)) (Err refuse.OutOfRange) ≡ Ok t → (t ≡ new_table heads count) × (heads ≤ 8))
-    (λ _ r q. (cc, few r)) (λ _ _ q. no_table q) refl e
+    (λ _ r q. (cc, few r)) (λ _ _ q. cc) refl e
   where
     few : in_range heads count ≡ true → heads ≤ 8
     few r =
         let a = and_parts (leb 1 heads && leb heads 8) (leb 1 count && leb count 1024) r in
         leb-true heads 8 (and_parts (leb 1 heads) (leb heads 8) a.0).1
-
-    no_table : {X : Type 0} → Err refuse.OutOfRange ≡ Ok t → X
-    no_table q = let z : ◌≡◌ {A = ℕ} 0 1 = cc in absurd (omega arith)
 
 pub laws-of-runs : {W : Type 0} (kit : Kit W) → Lawful kit → LawsOfRuns W kit
 laws-of-runs kit law heads count t e cells reads writes calls =
