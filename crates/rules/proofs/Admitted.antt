@@ -1,5 +1,5 @@
 -- What is known once no refusal is found.
-use Rattle.std.proofs.Common.{◌≡◌, ℕ, ◌*◌, ◌<◌, Bool, true, false, ◌&&◌, eqb, List, [], ◌∷◌, length, Some, None, Option, sym, refl}
+use Rattle.std.proofs.Common.{◌≡◌, ℕ, ◌*◌, ◌<◌, Bool, true, false, ◌&&◌, eqb, List, [], ◌∷◌, length, Some, None, Option, refl}
 use Rattle.std.specs.List.{AllByRecursion}
 use Rattle.std.proofs.lemmas.Bool.{not-false, eqb-true, leb-false, and_parts}
 use Rattle.parts.specs.declared.calls.Call.{Call}
@@ -7,7 +7,6 @@ use Rattle.rules.specs.declared.types.Caller.{Caller}
 use Rattle.rules.specs.declared.types.Refusal.{Refusal}
 use Rattle.rules.specs.Bench.{Bench, head_at, is_odd}
 use Rattle.rules.specs.Refusals.{lists_fit, is_stale, is_beyond, takes, waits, lacks_slot, lacks_transaction, lacks_attempt, when, first, refusals, refusal}
-
 
 when-none : (b : Bool) (e : Refusal) → when b e ≡ None → b ≡ false
 when-none true e q = cc

@@ -1,5 +1,5 @@
 -- The laws of single calls that can be told at a glance.
-use Rattle.std.proofs.Common.{◌≡◌, ℕ, Bool, true, false, not, ◌&&◌, eqb, leb, List, [], ◌∷◌, get_or, set, Some, None, Ok, Err, Option, sym, refl, ap, ◌∙◌, inl, arith}
+use Rattle.std.proofs.Common.{◌≡◌, ℕ, Bool, true, false, not, ◌&&◌, eqb, leb, List, [], ◌∷◌, get_or, set, Some, None, Ok, Err, Option, sym, refl, ap, ◌∙◌, inl}
 use Rattle.std.proofs.lemmas.List.{get_or-set_other}
 use Rattle.std.proofs.lemmas.Bool.{both_ways, not_from_false, eq-eqb, ne_eqb, lt-leb}
 use Rattle.parts.specs.declared.types.Cause.{Cause}

@@ -1,8 +1,8 @@
 -- What the rules' proof needs of lists, tests and options.
-use Rattle.std.proofs.Common.{◌≡◌, ℕ, zero, suc, Bool, true, false, ◌||◌, ◌⊎◌, List, [], ◌∷◌, ◌++◌, map, set, Some, None, Option, sym, refl, ap, ◌∙◌, subst, inl, inr, ⊎_elim, arith}
+use Rattle.std.proofs.Common.{◌≡◌, ℕ, zero, suc, Bool, true, false, ◌||◌, eqb, ◌⊎◌, List, [], ◌∷◌, ◌++◌, map, set, Some, None, Option, sym, refl, ap, ◌∙◌, subst, inl, inr, ⊎_elim}
 use Rattle.std.specs.List.{slice_get, AllByRecursion}
 use Rattle.std.specs.Option.{option_map}
-use Rattle.std.proofs.lemmas.Bool.{cases_eq, or_parts, false≢true}
+use Rattle.std.proofs.lemmas.Bool.{cases_eq, or_parts, eqb-false, ne_eqb}
 use Rattle.std.proofs.lemmas.Option.{slice_get-map}
 use Rattle.rules.specs.Logs.{any}
 
@@ -16,7 +16,10 @@ by-option None P p q = p refl
 by-option (Some x) P p q = q x refl
 
 pub wrong : {X : Type 0} → false ≡ true → X
-wrong e = absurd (false≢true e)
+wrong e = cc
+
+pub eqb-flip : (a b : ℕ) → eqb a b ≡ false → eqb b a ≡ false
+eqb-flip a b e = ne_eqb b a (λ q. eqb-false a b e (sym q))
 
 module _ {X : Type 0} where
   pub nth-set-same : (xs : List X) (i : ℕ) (x y : X) → slice_get xs i ≡ Some y → slice_get (set xs i x) i ≡ Some x

@@ -8,7 +8,7 @@ use native.Mathlib.Omega.{arith}
 use lib.Dec.{eqb}
 use lib.ListN.{length, set, take, drop, take-append-drop}
 use Rattle.std.specs.List.{slice_get, filter, AllByRecursion}
-use Rattle.std.proofs.lemmas.Bool.{eqb-true, eqb-false, ne_eqb, cond-false, or_cases, or_parts, and_parts, cases_lt}
+use Rattle.std.proofs.lemmas.Bool.{eqb-true, cond-false, or_cases, or_parts, and_parts, cases_lt}
 use Rattle.std.proofs.lemmas.List.{take_all, drop-drop}
 use Rattle.std.proofs.ByRecursion.{All-drop}
 use Rattle.std.specs.declared.option.Option.TheVariants.{Some}
@@ -33,9 +33,6 @@ use Rattle.rules.proofs.Turns.{quiet_at, going-plain, running-going, software-ru
 pub gate : (y x : Bool) → (y && x) ≡ false → y ≡ true → x ≡ false
 gate true x e t = e
 gate false x e t = wrong t
-
-pub eqb-flip : (a b : ℕ) → eqb a b ≡ false → eqb b a ≡ false
-eqb-flip a b e = ne_eqb b a (λ q. eqb-false a b e (sym q))
 
 pub software-not-hardware : (s : State) → is_software s ≡ true → is_hardware s ≡ false
 software-not-hardware Idle e = refl

@@ -1,7 +1,7 @@
 -- Laws of logs: what a write or a read leaves in one, and what putting one into the cells does.
 use Rattle.std.proofs.Common.{◌≡◌, ℕ, suc, ◌+◌, ◌≤◌, true, false, cond, not, ◌&&◌, ◌||◌, eqb, leb, List, [], ◌∷◌, ◌++◌, length, set, Some, None, Option, sym, refl, ap, ◌∙◌, subst, ⊎_elim, arith}
 use Rattle.std.specs.List.{slice_get, AllByRecursion}
-use Rattle.std.proofs.lemmas.Bool.{eqb-true, eqb-false, ne_eqb, or_parts, or_cases, and_parts, and_from, leb-false}
+use Rattle.std.proofs.lemmas.Bool.{eqb-true, eqb-false, or_parts, or_cases, and_parts, and_from, leb-false}
 use Rattle.std.proofs.lemmas.List.{set-set, set_comm, length-append}
 use Rattle.std.proofs.ByRecursion.{All-append}
 use Rattle.rules.specs.declared.types.Slot.{Slot}
@@ -10,7 +10,7 @@ use Rattle.rules.specs.Kit.{Kit, Lawful}
 use Rattle.rules.specs.Bench.{Bench, holds, holds_same}
 use Rattle.rules.specs.Laws.{Agrees}
 use Rattle.rules.proofs.Seats.{meets}
-use Rattle.rules.proofs.Basics.{by-test, by-option, wrong, nth-set-other, any_append, any_none, all-append-left, all-append-right, all_both}
+use Rattle.rules.proofs.Basics.{eqb-flip, by-test, by-option, wrong, nth-set-other, any_append, any_none, all-append-left, all-append-right, all_both}
 
 -- no two slots name one cell
 abbrev pub Distinct : {W : Type 0} → List (Slot W) → Type 0
@@ -60,7 +60,7 @@ module _ {W : Type 0} where
       by-test (eqb c s.cell) (λ b. Distinct (cond b (slot c w ∷ log) (s ∷ put c w log)))
       (λ e. let same : c ≡ s.cell = eqb-true c s.cell e in
       (subst (λ i. names i log ≡ false) (sym same) d.0, d.1))
-      (λ e. let ne : eqb s.cell c ≡ false = ne_eqb s.cell c (λ q. eqb-false c s.cell e (sym q)) in
+      (λ e. let ne : eqb s.cell c ≡ false = eqb-flip c s.cell e in
       (names-put s.cell c w log ∙ rw (d.0, ne), distinct-put c w log d.1))
 
   pub some-put : (c : ℕ) (w : W) (log : List (Slot W)) → is_empty (put c w log) ≡ false

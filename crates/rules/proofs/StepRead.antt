@@ -16,7 +16,7 @@ use Rattle.rules.specs.Answers.{answered}
 use Rattle.rules.specs.Bounds.{InBounds}
 use Rattle.rules.specs.History.{History, Page, turned, entered}
 use Rattle.rules.specs.Laws.{Agrees, Explained}
-use Rattle.rules.proofs.Basics.{by-option, wrong, any_none, all_both}
+use Rattle.rules.proofs.Basics.{eqb-flip, by-option, wrong, any_none, all_both}
 use Rattle.rules.proofs.Admitted.{Sized}
 use Rattle.rules.proofs.Seats.{Seat, Rig, view, seat_of, seat_at, meets, loaded}
 use Rattle.rules.proofs.Views.{head-bounds, seat-there, read-room, read_length, own-log, untouched, reads-laid, conflict-seen}
@@ -25,7 +25,7 @@ use Rattle.rules.proofs.HistoryLaws.{count-mono}
 use Rattle.rules.proofs.Invariant.{Linked, Inv}
 use Rattle.rules.proofs.Frames.{struck-hit, hardware-not-software}
 use Rattle.rules.proofs.Turns.{quiet_at, turned-here, turned-other, going-plain, running-going}
-use Rattle.rules.proofs.Common.{gate, eqb-flip, software-not-hardware, running-not-aborted, survives, hardware-even, settled-all, sound-valid, changed, struck-self}
+use Rattle.rules.proofs.Common.{gate, software-not-hardware, running-not-aborted, survives, hardware-even, settled-all, sound-valid, changed, struck-self}
 use Rattle.rules.proofs.Keeping.{Keeps, keep-alone, keep-swept}
 
 -- the attempt with one more word read

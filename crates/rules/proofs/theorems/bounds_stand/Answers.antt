@@ -1,9 +1,8 @@
-use Rattle.rules.specs.Kit.{kit_of}
 use Rattle.rules.proofs.KeptBounds.{bounds-at-set-up, bounds-kept}
 use Rattle.rules.proofs.theorems.bounds_stand.Goals as goal
 
 pub returns : goal.returns
 returns g c = record {
   set_up = bounds-at-set-up;
-  calls = bounds-kept (kit_of g.W.PartialEq g.B.Board g.P.Policy c.args.board.now c.args.policy.now);
+  calls = search bounds-kept;
 }
