@@ -1,14 +1,14 @@
 -- What a line says: each entry has one text, but that a rig line may leave a plain policy out.
-use Rattle.std.specs.Prelude.{◌≡◌, ℕ, ◌≤◌, ◌⊎◌, List, [], ◌∷◌, codes, decimal}
+use Rattle.std.specs.Prelude.{◌≡◌, ℕ, ℤ, ◌≤◌, ◌⊎◌, List, [], ◌∷◌, Result, Ok, Err, codes, decimal}
 use Rattle.std.specs.Int.Signed.{mag}
 use Rattle.std.specs.Fmt.{signed_decimal}
 use Rattle.std.specs.List.{join_with_byte}
+use Rattle.parts.specs.declared.calls.Call.{Call}
+use Rattle.parts.specs.declared.calls.Call.TheVariants as call
 use Rattle.entries.specs.declared.types.BoardName.{BoardName}
 use Rattle.entries.specs.declared.types.BoardName.TheVariants as board
 use Rattle.entries.specs.declared.types.PolicyName.{PolicyName}
 use Rattle.entries.specs.declared.types.PolicyName.TheVariants as policy
-use Rattle.entries.specs.declared.types.Call.{Call}
-use Rattle.entries.specs.declared.types.Call.TheVariants as call
 use Rattle.entries.specs.declared.types.Entry.{Entry}
 use Rattle.entries.specs.declared.types.Entry.TheVariants as entry
 use Rattle.entries.specs.declared.types.Letter.{Letter}
@@ -41,9 +41,14 @@ word_text word.Rig = codes "rig"
 word_text word.Set = codes "set"
 word_text (word.Call l) = letter_text l
 
+-- bytes read as the value whose text they are, or refused where they are no value's text
+abbrev pub Named : {V E : Type 0} → (V → List ℕ) → List ℕ → Result V E → Type 0
+Named text bytes (Ok v) = bytes ≡ text v
+Named {V = V} text bytes (Err e) = (v : V) → bytes ≡ text v → ⊥
+
 -- The word that an entry begins with.
 
-abbrev pub letter_of : Call → Letter
+abbrev pub letter_of : {C W : Type 0} → Call C W → Letter
 letter_of call.Open = letter.Open
 letter_of (call.Read c) = letter.Read
 letter_of (call.Write c z) = letter.Write
@@ -60,7 +65,7 @@ word_of (entry.Call k) = word.Call (letter_of k.call)
 
 -- The fields after it: numbers and amounts by their numerals, a call's head before its operands.
 
-abbrev pub operands : Call → List (List ℕ)
+abbrev pub operands : Call ℕ ℤ → List (List ℕ)
 operands call.Open = []
 operands (call.Read c) = decimal c ∷ []
 operands (call.Write c z) = decimal c ∷ signed_decimal z ∷ []
@@ -83,7 +88,7 @@ ShortValues (entry.Call k) fields = ⊥
 
 -- Numbers lie in 32 bits and amounts in 32 signed bits, where `mag` is n both of n and of -(n + 1).
 
-abbrev pub CallFits : Call → Type 0
+abbrev pub CallFits : Call ℕ ℤ → Type 0
 CallFits call.Open = Unit {0}
 CallFits (call.Read c) = c ≤ 4294967295
 CallFits (call.Write c z) = (c ≤ 4294967295) × (mag z ≤ 2147483647)

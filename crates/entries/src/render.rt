@@ -3,17 +3,18 @@ ghost use Rattle.std.specs.Prelude.{Some};
 ghost use Rattle.entries.specs.declared.types.Entry.TheVariants as entry;
 ghost use Rattle.entries.specs.Rendering.{board_text, policy_text, line_text};
 
-use crate::types::{BoardName, Call, Entry, HeadCall, PolicyName, RigLine, Setting};
+use crate::types::{BoardName, Entry, HeadCall, PolicyName, RigLine, Setting};
+use parts::Call;
 use std::fmt;
 
 impl fmt::Display for BoardName {
     ghost output = { λ b. Some (board_text b) };
 
     fn fmt<W: fmt::Write>(&self, f: &mut fmt::Formatter<W>) -> fmt::Result {
-        match self {
-            BoardName::Stores => f.write_str("stores"),
-            BoardName::Lines => f.write_str("lines"),
-        }
+        f.write_str(match self {
+            BoardName::Stores => "stores",
+            BoardName::Lines => "lines",
+        })
     }
 }
 
@@ -21,10 +22,10 @@ impl fmt::Display for PolicyName {
     ghost output = { λ p. Some (policy_text p) };
 
     fn fmt<W: fmt::Write>(&self, f: &mut fmt::Formatter<W>) -> fmt::Result {
-        match self {
-            PolicyName::Plain => f.write_str("plain"),
-            PolicyName::Careful => f.write_str("careful"),
-        }
+        f.write_str(match self {
+            PolicyName::Plain => "plain",
+            PolicyName::Careful => "careful",
+        })
     }
 }
 
@@ -73,7 +74,7 @@ impl fmt::Display for Entry {
     ghost output = { λ e. Some (line_text e) };
 
     fn fmt<W: fmt::Write>(&self, f: &mut fmt::Formatter<W>) -> fmt::Result {
-        match *self {
+        match self {
             Entry::Rig(rig) => write!(f, "{rig}"),
             Entry::Set(setting) => write!(f, "{setting}"),
             Entry::Call(call) => write!(f, "{call}"),

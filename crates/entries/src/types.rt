@@ -1,4 +1,5 @@
 // What the lines of a scenario say.
+use parts::Call;
 
 // The board that a scenario runs on.
 #[derive(Clone, Copy)]
@@ -30,24 +31,11 @@ pub struct Setting {
     pub amount: i32,
 }
 
-// A call of the rig: a read with its cell, a write with its cell and amount.
-#[derive(Clone, Copy)]
-pub enum Call {
-    Open,
-    Read(u32),
-    Write(u32, i32),
-    Close,
-    Push,
-    Jolt,
-    Again,
-    Drop,
-}
-
-// A call with the number of the head that makes it.
+// A call with the number of the head that makes it: a read has its cell, a write its cell and amount.
 #[derive(Clone, Copy)]
 pub struct HeadCall {
     pub head: u32,
-    pub call: Call,
+    pub call: Call<u32, i32>,
 }
 
 // What a line says.
@@ -78,3 +66,7 @@ pub enum Word {
     Set,
     Call(Letter),
 }
+
+// Bytes that are none of the words asked for.
+#[derive(Clone, Copy)]
+pub struct UnknownWord;

@@ -5,53 +5,60 @@ ghost use Rattle.faults.specs.Reports.{field_report, line_report, report_of, lay
 use crate::types::{FieldFault, Layer, LineFault, Place, Report, RigFault};
 use std::fmt;
 
-fn report(number: u8, place: Place, layer: Layer) -> Report
-    ensures { result ≡ record { number = number; place = place; layer = layer } }
-{
-    Report {
-        number,
-        place,
-        layer,
+impl From<FieldFault> for Report {
+    ghost from_gives = { λ f r. r ≡ field_report f };
+
+    fn from(fault: FieldFault) -> Report {
+        let (number, place) = match fault {
+            FieldFault::UnknownWord(place) => (21, place),
+            FieldFault::BadNumber(place) => (23, place),
+        };
+        Report {
+            number,
+            place,
+            layer: Layer::Field,
+        }
     }
 }
 
-fn field_report(fault: FieldFault) -> Report
-    ensures { result ≡ field_report fault }
-{
-    match fault {
-        FieldFault::UnknownWord(place) => report(21, place, Layer::Field),
-        FieldFault::BadNumber(place) => report(23, place, Layer::Field),
+impl From<LineFault> for Report {
+    ghost from_gives = { λ f r. r ≡ line_report f };
+
+    fn from(fault: LineFault) -> Report {
+        let (number, place) = match fault {
+            LineFault::Field(fault) => return fault.into(),
+            LineFault::UnknownWord(place) => (21, place),
+            LineFault::Miscounted(place) => (22, place),
+            LineFault::Misplaced(place) => (24, place),
+            LineFault::TooLong => (
+                25,
+                Place {
+                    line: 0,
+                    byte: 65_536,
+                },
+            ),
+        };
+        Report {
+            number,
+            place,
+            layer: Layer::Line,
+        }
     }
 }
 
-fn line_report(fault: LineFault) -> Report
-    ensures { result ≡ line_report fault }
-{
-    match fault {
-        LineFault::Field(fault) => field_report(fault),
-        LineFault::UnknownWord(place) => report(21, place, Layer::Line),
-        LineFault::Miscounted(place) => report(22, place, Layer::Line),
-        LineFault::Misplaced(place) => report(24, place, Layer::Line),
-        LineFault::TooLong => report(
-            25,
-            Place {
-                line: 0,
-                byte: 65_536,
-            },
-            Layer::Line,
-        ),
-    }
-}
+impl From<RigFault> for Report {
+    ghost from_gives = { λ f r. r ≡ report_of f };
 
-impl RigFault {
-    // The number, place and layer of a fault.
-    pub fn report(self) -> Report
-        ensures { result ≡ report_of self }
-    {
-        match self {
-            RigFault::Line(fault) => line_report(fault),
-            RigFault::NoSuchCell(place) => report(4, place, Layer::Rig),
-            RigFault::BadRig(place) => report(11, place, Layer::Rig),
+    fn from(fault: RigFault) -> Report {
+        let (number, place) = match fault {
+            RigFault::Line(fault) => return fault.into(),
+            RigFault::NoSuchCell(place) => (4, place),
+            RigFault::BadRig(place) => (11, place),
+        };
+        Report {
+            number,
+            place,
+            layer: Layer::Rig,
         }
     }
 }
@@ -60,11 +67,11 @@ impl fmt::Display for Layer {
     ghost output = { λ l. Some (layer_text l) };
 
     fn fmt<W: fmt::Write>(&self, f: &mut fmt::Formatter<W>) -> fmt::Result {
-        match self {
-            Layer::Field => f.write_str("field"),
-            Layer::Line => f.write_str("line"),
-            Layer::Rig => f.write_str("rig"),
-        }
+        f.write_str(match self {
+            Layer::Field => "field",
+            Layer::Line => "line",
+            Layer::Rig => "rig",
+        })
     }
 }
 
@@ -74,10 +81,9 @@ impl fmt::Display for Report {
     fn fmt<W: fmt::Write>(&self, f: &mut fmt::Formatter<W>) -> fmt::Result {
         let Report {
             number,
-            place,
+            place: Place { line, byte },
             layer,
         } = *self;
-        let Place { line, byte } = place;
         write!(f, "fault\t{number}\t{line}\t{byte}\t{layer}")
     }
 }
