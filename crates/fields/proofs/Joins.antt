@@ -1,10 +1,12 @@
 -- The parts of a text, and the text again.
-use Rattle.std.proofs.Common.{◌≡◌, ℕ, suc, ◌+◌, ◌-◌, ◌<◌, ◌≤◌, true, false, eqb, ◌⊎◌, List, [], ◌∷◌, ◌++◌, length, take, drop, sym, refl, ap, ◌∙◌, subst, inl, inr, ⊎_elim, append_assoc, append-nil, arith, length-append}
+use Rattle.std.proofs.Common.{◌≡◌, ℕ, suc, ◌+◌, ◌-◌, ◌<◌, ◌≤◌, true, false, eqb, ◌⊎◌, List, [], ◌∷◌, ◌++◌, length, take, drop, sym, refl, ap, ◌∙◌, subst, inl, inr, ⊎_elim, append_assoc, append-nil, arith, length-append, Option, Some, None}
+use Rattle.std.specs.Borrow.{Bor}
 use Rattle.std.specs.List.{AllByRecursion, join_with_byte}
+use Rattle.std.specs.Option.{unwrap_or}
 use Rattle.std.proofs.lemmas.List.{nil_from_length, drop_all, drop-drop, drop-append-le, take_at, take-append-le}
 use Rattle.std.proofs.lemmas.Bool.{cond-true, cond-false, cond_both, cases_Bool, cases_lt, eqb-true, eqb-false, eq-eqb, ne_eqb}
 use Rattle.faults.specs.declared.types.Place.{Place}
-use Rattle.fields.specs.Parts.{split, onto, lines_of, after_line, lines_from, lines_at, after_field, fields_from, fields_at, bytes_of, Piece, ended, Without, InRow, LiesIn, Lined, FieldsOfLine, text_start}
+use Rattle.fields.specs.Parts.{split, onto, lines_of, after_line, lines_from, lines_at, after_field, fields_from, fields_at, bytes_of, Piece, ended, Without, InRow, LiesIn, Lined, FieldsOfLine, text_start, CutAt}
 
 -- fields
 
@@ -46,11 +48,11 @@ split-without b (x ∷ xs) =
     cond_both (eqb x b) ([] ∷ split b xs) (onto x (split b xs)) (AllByRecursion (Without b)) (λ _. (tt, split-without b xs)) (λ e. onto-without b x (split b xs) (eqb-false x b e) (split-without b xs))
 
 -- parts without the byte b, joined by it and split again, are as they were
-split-last : (b : ℕ) (p : List ℕ) → Without b p → split b p ≡ p ∷ []
+pub split-last : (b : ℕ) (p : List ℕ) → Without b p → split b p ≡ p ∷ []
 split-last b [] a = refl
 split-last b (x ∷ p) (h, a) = cond-false (eqb x b) ([] ∷ split b p) (onto x (split b p)) (ne_eqb x b h) ∙ ap (onto x) (split-last b p a)
 
-split-next : (b : ℕ) (p rest : List ℕ) → Without b p → split b (p ++ (b ∷ rest)) ≡ p ∷ split b rest
+pub split-next : (b : ℕ) (p rest : List ℕ) → Without b p → split b (p ++ (b ∷ rest)) ≡ p ∷ split b rest
 split-next b [] rest a = cond-true (eqb b b) ([] ∷ split b rest) (onto b (split b rest)) (eq-eqb b b refl)
 split-next b (x ∷ p) rest (h, a) = cond-false (eqb x b) ([] ∷ split b (p ++ (b ∷ rest))) (onto x (split b (p ++ (b ∷ rest)))) (ne_eqb x b h) ∙ ap (onto x) (split-next b p rest a)
 
@@ -203,3 +205,32 @@ fielded-at (p, bytes) =
     all : (a : ℕ) (xs : List ℕ) → drop (a - a) xs ≡ xs
     all a [] = drop_all (a - a) [] (omega arith)
     all a (x ∷ xs) = ap (λ n. drop n (x ∷ xs)) (let e : a - a ≡ 0 = omega arith in e)
+
+-- the first of what is left
+
+pub last-field : (p : Place) (bs f : List ℕ) → (bs ≡ f) × Without 9 f → fields_at (p, bs) ≡ (p, f) ∷ []
+last-field p bs f (e, w) = ap (λ (l : List ℕ). fields_from p (split 9 l)) e ∙ ap (fields_from p) (split-last 9 f w)
+
+pub next-field : (p : Place) (bs f rest : List ℕ) → (bs ≡ f ++ (9 ∷ rest)) × Without 9 f → fields_at (p, bs) ≡ (p, f) ∷ fields_at (record { line = p.line; byte = p.byte + length f + 1 }, rest)
+next-field p bs f rest (e, w) =
+    let k : suc (p.byte + length f) ≡ p.byte + length f + 1 = omega arith in
+    ap (λ (l : List ℕ). fields_from p (split 9 l)) e ∙ ap (fields_from p) (split-next 9 f rest w)
+    ∙ ap (λ n. (p, f) ∷ fields_from (record { line = p.line; byte = n }) (split 9 rest)) k
+
+next-line : (p : Place) (bs f rest : List ℕ) → (bs ≡ f ++ (10 ∷ rest)) × Without 10 f
+    → lines_at p bs ≡ (p, f) ∷ lines_at (record { line = p.line + 1; byte = p.byte + (length bs - length rest) }) rest
+next-line p bs f rest (e, w) =
+    let l : suc p.line ≡ p.line + 1 = omega arith in
+    let k : suc (p.byte + length f) ≡ p.byte + (length bs - length rest) = omega (arith, ap length e, length-append f (10 ∷ rest)) in
+    ap (λ (t : List ℕ). lines_from p (lines_of t)) e ∙ ap (lines_from p) (lines_next f rest w)
+    ∙ ap (λ n. (p, f) ∷ lines_from (record { line = n; byte = suc (p.byte + length f) }) (lines_of rest)) l
+    ∙ ap (λ n. (p, f) ∷ lines_from (record { line = p.line + 1; byte = n }) (lines_of rest)) k
+
+last-line : (p : Place) (bs f : List ℕ) → 0 < length bs → (bs ≡ f) × Without 10 f → lines_at p bs ≡ (p, f) ∷ []
+last-line p bs f some (e, w) = ap (λ (t : List ℕ). lines_from p (lines_of t)) e ∙ ap (lines_from p) (line-last f (omega (arith, ap length e)) w)
+
+-- nothing is left after a last line that lacks its newline
+pub first-line : (p : Place) (bs f : List ℕ) (r : Option (Bor (List ℕ))) (rest none : Bor (List ℕ)) → 0 < length bs → CutAt 10 bs f r → rest ≡ unwrap_or r none → none.now ≡ []
+    → lines_at p bs ≡ (p, f) ∷ lines_at (record { line = p.line + 1; byte = p.byte + (length bs - length rest.now) }) rest.now
+first-line p bs f (Some r) rest none some cut e d = rw e (next-line p bs f r.now cut)
+first-line p bs f None rest none some cut e d = rw (e, d) (last-line p bs f some cut)

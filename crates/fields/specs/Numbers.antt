@@ -32,21 +32,3 @@ Begins (Plain all) bytes = (all.now ≡ bytes) × (slice_index bytes 0 ≢ 45)
 abbrev pub Reads : {V : Type 0} → (V → Type 0) → Option V → Type 0
 Reads {V = V} Writes None = (v : V) → Writes v → ⊥
 Reads Writes (Some v) = Writes v
-
--- the number that digits write after those of n
-abbrev pub after : ℕ → List ℕ → ℕ
-after n [] = n
-after n (b ∷ bs) = after (n * 10 + (b - 48)) bs
-
--- digits, leading zeros among them, and their value
-abbrev pub Valued : List ℕ → ℕ → Type 0
-Valued bytes n = (all_ascii_digits bytes ≡ true) × (after 0 bytes ≡ n) × (n ≤ 4294967295)
-
--- the amount that a minus sign makes of a number, and the one that a number is by itself
-abbrev pub negative : Option ℕ → Option ℤ
-negative None = None
-negative (Some n) = cond (n == 0) None (cond (nat_le n 2147483648) (Some (negsuc (n - 1))) None)
-
-abbrev pub positive : Option ℕ → Option ℤ
-positive None = None
-positive (Some n) = cond (nat_le n 2147483647) (Some (pos n)) None

@@ -1,8 +1,11 @@
 -- A text as lines and a line as fields, each with the place where it begins.
 use Rattle.std.specs.Prelude.{◌≡◌, ℕ, suc, ◌+◌, ◌-◌, Bool, true, false, cond, ◌⊎◌, List, [], ◌∷◌, ◌++◌, map, length, take, drop, Some, None, Option, ◌==◌, ◌≢◌}
+use Rattle.std.specs.Borrow.{Bor}
 use Rattle.std.specs.List.{AllByRecursion, join_with_byte}
 use Rattle.faults.specs.declared.types.Place.{Place}
 use Rattle.fields.specs.declared.parts.Part.{Part}
+use Rattle.fields.specs.declared.parts.Line.{Line}
+use Rattle.fields.specs.declared.parts.Fields.{Fields}
 use Rattle.fields.specs.declared.parts.Reader.{Reader}
 
 -- x in front of the first of the parts
@@ -26,6 +29,9 @@ Piece = Place × List ℕ
 
 abbrev pub piece : Part → Piece
 piece p = (p.place, p.bytes.now)
+
+abbrev pub line_piece : Line → Piece
+line_piece l = piece l.part
 
 abbrev pub bytes_of : List Piece → List (List ℕ)
 bytes_of ps = map (λ (p : Piece). p.1) ps
@@ -91,32 +97,21 @@ pub record FieldsOfLine (line : Piece) (fields : List Piece) : Type 0 where
   pub same_line : AllByRecursion (λ (f : Piece). f.0.line ≡ line.0.line) fields
   pub placed : AllByRecursion (LiesIn line.0.byte line.1) fields
 
-abbrev pub Fielded : Option Part → List Piece → Type 0
-Fielded None fields = fields ≡ []
-Fielded (Some line) fields = FieldsOfLine (piece line) fields
-
 -- What a reader has still to hand out.
 
 abbrev pub lines_left : Reader → List Piece
-lines_left r = lines_at (record { line = suc r.count; byte = r.at }) r.rest.now
+lines_left r = lines_at r.rest.place r.rest.bytes.now
 
-abbrev pub while_open : Bool → List Piece → List Piece
-while_open true fields = fields
-while_open false fields = []
-
-abbrev pub fields_left : Reader → List Piece
-fields_left r = while_open r.open (fields_at (piece r.line))
-
-abbrev pub fields_of : Option Part → List Piece
+abbrev pub fields_of : Option Line → List Piece
 fields_of None = []
-fields_of (Some line) = fields_at (piece line)
+fields_of (Some line) = fields_at (line_piece line)
 
--- the first of what is left is handed out, and the others are left then; None where nothing is left
-abbrev pub Hands : Option Part → List Piece → List Piece → Type 0
-Hands None before after = (before ≡ []) × (after ≡ [])
-Hands (Some p) before after = before ≡ piece p ∷ after
+abbrev pub fields_left : Fields → List Piece
+fields_left f = fields_of f.rest
 
--- how many bytes stand before the first b
-abbrev pub up_to : ℕ → List ℕ → ℕ
-up_to b [] = 0
-up_to b (x ∷ xs) = cond (x == b) 0 (suc (up_to b xs))
+-- The words below are for the steps of handing out.
+
+-- bytes cut at their first byte b: what comes before it, and what comes after it, where there is one
+abbrev pub CutAt : ℕ → List ℕ → List ℕ → Option (Bor (List ℕ)) → Type 0
+CutAt b bytes first None = (bytes ≡ first) × Without b first
+CutAt b bytes first (Some rest) = (bytes ≡ first ++ (b ∷ rest.now)) × Without b first

@@ -6,4 +6,4 @@ mod parts;
 mod reader;
 mod types;
 
-pub use parts::{Part, Reader};
+pub use parts::{Fields, Line, Part, Reader};

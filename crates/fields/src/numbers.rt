@@ -1,11 +1,12 @@
 // The numbers and amounts that fields write.
 ghost use Rattle.std.specs.Prelude.{◌≡◌};
-ghost use Rattle.fields.specs.Numbers.{Number, Amount, Valued, Reads, FieldRead, Begins, negative, positive};
+ghost use Rattle.fields.specs.Numbers.{Number, Amount, Reads, FieldRead, Begins};
 ghost use Rattle.faults.specs.declared.types.FieldFault.TheVariants.{BadNumber};
 
 use crate::parts::Part;
 use crate::types::Field;
 use faults::FieldFault;
+use std::str;
 
 // How a field begins.
 fn field_of(bytes: &[u8]) -> Field
@@ -17,63 +18,16 @@ fn field_of(bytes: &[u8]) -> Field
     }
 }
 
-// The value of decimal digits, leading zeros allowed, up to 4,294,967,295.
-fn digits_value(digits: &[u8]) -> Option<u32>
-    ensures { Reads (Valued digits.now) result }
-{
-    let mut n: u32 = 0;
-    for b in digits {
-        if *b < b'0' {
-            return None;
-        }
-        if *b > b'9' {
-            return None;
-        }
-        let next = n as u64 * 10 + (*b - b'0') as u64;
-        if next > 4_294_967_295 {
-            return None;
-        }
-        n = next as u32;
-    }
-    Some(n)
-}
-
 // The number whose numeral the bytes are.
 fn number_of(bytes: &[u8]) -> Option<u32>
     ensures { Reads (Number bytes.now) result }
 {
     match bytes {
-        [] => None,
-        [b'0'] => Some(0),
-        [b'0', ..] => None,
-        _ => digits_value(bytes),
+        // `parse` would take a plus sign and leading zeros
+        [b'+', ..] => None,
+        [b'0', _, ..] => None,
+        _ => str::from_utf8(bytes).ok()?.parse().ok(),
     }
-}
-
-// -n, where that is below 0 and an amount.
-fn negated(n: Option<u32>) -> Option<i32>
-    ensures { result ≡ negative n }
-{
-    match n {
-        Some(n) => {
-            if n == 0 || n > 2_147_483_648 {
-                return None;
-            }
-            Some((-(n as i64)) as i32)
-        }
-        None => None,
-    }
-}
-
-// n, where that is an amount.
-fn unsigned(n: Option<u32>) -> Option<i32>
-    ensures { result ≡ positive n }
-{
-    let n = n?;
-    if n > 2_147_483_647 {
-        return None;
-    }
-    Some(n as i32)
 }
 
 // The amount whose numeral the bytes are.
@@ -81,8 +35,11 @@ fn amount_of(bytes: &[u8]) -> Option<i32>
     ensures { Reads (Amount bytes.now) result }
 {
     match field_of(bytes) {
-        Field::Minus(digits) => negated(number_of(digits)),
-        Field::Plain(digits) => unsigned(number_of(digits)),
+        Field::Minus(digits) => match number_of(digits)? {
+            0 => None,
+            n => i32::try_from(-i64::from(n)).ok(),
+        },
+        Field::Plain(digits) => i32::try_from(number_of(digits)?).ok(),
     }
 }
 
@@ -91,19 +48,13 @@ impl Part<'_> {
     pub fn number(self) -> Result<u32, FieldFault>
         ensures { FieldRead (Number self.entry.bytes.now) (BadNumber self.entry.place) result }
     {
-        match number_of(self.bytes) {
-            Some(n) => Ok(n),
-            None => Err(FieldFault::BadNumber(self.place)),
-        }
+        number_of(self.bytes).ok_or(FieldFault::BadNumber(self.place))
     }
 
     // The amount that the part writes.
     pub fn amount(self) -> Result<i32, FieldFault>
         ensures { FieldRead (Amount self.entry.bytes.now) (BadNumber self.entry.place) result }
     {
-        match amount_of(self.bytes) {
-            Some(z) => Ok(z),
-            None => Err(FieldFault::BadNumber(self.place)),
-        }
+        amount_of(self.bytes).ok_or(FieldFault::BadNumber(self.place))
     }
 }

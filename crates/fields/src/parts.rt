@@ -1,4 +1,4 @@
-// Parts of a text, and the reader that hands them out.
+// Parts of a text, and what hands them out.
 ghost use Rattle.std.specs.Prelude.{◌+◌, ◌^◌, ◌<◌, length};
 
 use faults::Place;
@@ -10,28 +10,25 @@ pub struct Part<'a> {
     pub bytes: &'a [u8],
 }
 
-// A line, and what comes after it, with the byte where that begins.
+// A line without its newline, or what is left of one. The ghost field says that each of its bytes has a place.
 #[derive(Clone, Copy)]
-pub struct Cut<'a> {
-    pub first: Part<'a>,
-    pub at: usize,
-    pub rest: &'a [u8],
+pub struct Line<'a> {
+    pub part: Part<'a>,
+    ghost inside: { part.place.byte + length part.bytes.now < 2 ^ 64 },
 }
 
-// A text that is handed out line after line, and each line field after field.
-// The ghost fields say that no place can wrap.
-#[derive(Drop)]
+// A line that is handed out field after field.
+#[derive(Clone, Copy)]
+pub struct Fields<'a> {
+    // what is left of the line; nothing once its last field is handed out
+    pub(crate) rest: Option<Line<'a>>,
+}
+
+// A text that is handed out line after line. The ghost fields say that no place can wrap.
+#[derive(Clone, Copy)]
 pub struct Reader<'a> {
-    // what is left of the line that was handed out last
-    pub(crate) line: Part<'a>,
-    // whether a field of that line is still to come
-    pub(crate) open: bool,
-    // how many lines were handed out
-    pub(crate) count: usize,
-    // what is left of the text, and the byte where that begins
-    pub(crate) at: usize,
-    pub(crate) rest: &'a [u8],
-    ghost inside: { line.place.byte + length line.bytes.now < 2 ^ 64 },
-    ghost ahead: { at + length rest.now < 2 ^ 64 },
-    ghost counted: { count + length rest.now < 2 ^ 64 },
+    // what is left of the text, from where the next line begins
+    pub(crate) rest: Part<'a>,
+    ghost inside: { rest.place.byte + length rest.bytes.now < 2 ^ 64 },
+    ghost counted: { rest.place.line + length rest.bytes.now < 2 ^ 64 },
 }

@@ -1,133 +1,139 @@
 // Handing out the lines of a text and the fields of a line.
-ghost use Rattle.std.specs.Prelude.{◌≡◌, suc, ◌+◌, ◌^◌, ◌<◌, ◌≤◌, [], ◌∷◌, length};
-ghost use Rattle.fields.specs.Parts.{piece, up_to, Hands, lines_at, lines_left, fields_at, while_open, fields_left, fields_of, text_start, Lined, FieldsOfLine, Fielded};
+ghost use Rattle.std.specs.Prelude.{◌≡◌, ◌+◌, ◌^◌, ◌<◌, ◌==◌, ◌∷◌, length, position};
+ghost use Rattle.std.specs.Iterator.{YieldsFirstBy, item_count};
+ghost use Rattle.fields.specs.Parts.{CutAt, piece, line_piece, lines_at, lines_left, fields_at, fields_left, fields_of, text_start, Lined, FieldsOfLine};
 
-use crate::parts::{Cut, Part, Reader};
+use crate::parts::{Fields, Line, Part, Reader};
 use faults::Place;
 
-// How many bytes come before the first byte b, or all of them.
-fn before(s: &[u8], b: u8) -> usize
-    ensures value { result ≡ up_to b s.now }
-    ensures within { result ≤ length s.now }
+// How many bytes come before the first byte b, if there is one.
+fn before(bytes: &[u8], b: u8) -> Option<usize>
+    ensures { result ≡ position (λ x. x == b) bytes.now }
 {
-    for (i, x) in s.iter().enumerate() {
-        if *x == b {
-            return i;
-        }
-    }
-    s.len()
+    bytes.iter().position(|x| *x == b)
 }
 
-// A reader before the first line of the text.
-fn start_of(text: &[u8]) -> Reader
-    ensures lines { lines_left result ≡ lines_at text_start text.now }
-    ensures fields { fields_left result ≡ [] }
+// The bytes before the first byte b, and those after it, if there is one.
+fn cut(bytes: &[u8], b: u8) -> (&[u8], Option<&[u8]>)
+    ensures { CutAt b bytes.now result.0.now result.1 }
 {
-    let place = Place { line: 0, byte: 0 };
-    Reader {
-        line: Part {
-            place,
-            bytes: &text[0..0],
-        },
-        open: false,
-        count: 0,
-        at: 0,
-        rest: text,
+    match before(bytes, b) {
+        Some(n) => (&bytes[..n], Some(&bytes[n + 1..])),
+        None => (bytes, None),
     }
 }
 
-// The first line of a text that begins at this byte after so many lines, and what comes after it.
-fn first_line<'a>(count: usize, at: usize, text: &'a [u8]) -> Cut<'a>
-    requires some { 0 < length text.now }
-    requires ahead { at + length text.now < 2 ^ 64 }
-    requires counted { count + length text.now < 2 ^ 64 }
-    ensures handed { lines_at (record { line = suc count; byte = at }) text.now ≡ piece result.first ∷ lines_at (record { line = suc result.first.place.line; byte = result.at }) result.rest.now }
-    ensures parted { FieldsOfLine (piece result.first) (fields_at (piece result.first)) }
-    ensures inside { result.first.place.byte + length result.first.bytes.now < 2 ^ 64 }
-    ensures ahead { result.at + length result.rest.now < 2 ^ 64 }
-    ensures counted { result.first.place.line + length result.rest.now < 2 ^ 64 }
-{
-    let n = before(text, b'\n');
-    let after = if n < text.len() { n + 1 } else { n };
-    Cut {
-        first: Part {
-            place: Place {
-                line: count + 1,
-                byte: at,
-            },
-            bytes: &text[0..n],
-        },
-        at: at + after,
-        rest: &text[after..],
-    }
-}
-
-// The first field of a line, what comes after it, and whether that is a field too.
-fn first_field<'a>(line: Part<'a>) -> (Part<'a>, Part<'a>, bool)
-    requires { line.place.byte + length line.bytes.now < 2 ^ 64 }
-    ensures handed { fields_at (piece line.entry) ≡ piece result.0 ∷ while_open result.2 (fields_at (piece result.1)) }
+// The first line of what is left of a text, and what is left after it.
+fn first_line<'a>(text: Part<'a>) -> (Line<'a>, Part<'a>)
+    requires some { 0 < length text.bytes.now }
+    requires inside { text.place.byte + length text.bytes.now < 2 ^ 64 }
+    requires counted { text.place.line + length text.bytes.now < 2 ^ 64 }
+    ensures handed { lines_at text.entry.place text.entry.bytes.now ≡ line_piece result.0 ∷ lines_at result.1.place result.1.bytes.now }
     ensures inside { result.1.place.byte + length result.1.bytes.now < 2 ^ 64 }
+    ensures counted { result.1.place.line + length result.1.bytes.now < 2 ^ 64 }
 {
-    let n = before(line.bytes, b'\t');
+    let Part { place, bytes } = text;
+    let (first, rest) = cut(bytes, b'\n');
+    let rest = rest.unwrap_or(&[]);
+    let next = Place {
+        line: place.line + 1,
+        byte: place.byte + (bytes.len() - rest.len()),
+    };
+    let line = Line {
+        part: Part {
+            place,
+            bytes: first,
+        },
+    };
+    (
+        line,
+        Part {
+            place: next,
+            bytes: rest,
+        },
+    )
+}
+
+// The first field of a line, and what is left after it, if that is a field too.
+fn first_field<'a>(line: Line<'a>) -> (Part<'a>, Option<Line<'a>>)
+    ensures { fields_at (line_piece line.entry) ≡ piece result.0 ∷ fields_of result.1 }
+{
+    let Part { place, bytes } = line.part;
+    let (first, rest) = cut(bytes, b'\t');
     let field = Part {
-        place: line.place,
-        bytes: &line.bytes[0..n],
-    };
-    if n >= line.bytes.len() {
-        return (field, line, false);
-    }
-    let place = Place {
-        line: line.place.line,
-        byte: line.place.byte + n + 1,
-    };
-    let rest = Part {
         place,
-        bytes: &line.bytes[n + 1..],
+        bytes: first,
     };
-    (field, rest, true)
+    let Some(rest) = rest else {
+        return (field, None);
+    };
+    let next = Place {
+        line: place.line,
+        byte: place.byte + first.len() + 1,
+    };
+    (
+        field,
+        Some(Line {
+            part: Part {
+                place: next,
+                bytes: rest,
+            },
+        }),
+    )
+}
+
+impl<'a> Line<'a> {
+    // The fields of the line, of which there is at least one.
+    pub fn fields(self) -> Fields<'a>
+        ensures left { fields_left result ≡ fields_at (line_piece self.entry) }
+        ensures parted { FieldsOfLine (line_piece self.entry) (fields_left result) }
+    {
+        Fields { rest: Some(self) }
+    }
+}
+
+// The next field is handed out, and the others are left.
+impl<'a> Iterator for Fields<'a> {
+    type Item = Part<'a>;
+
+    ghost next_gives = { YieldsFirstBy piece fields_left };
+
+    ghost remaining = { item_count fields_left };
+
+    fn next(&mut self) -> Option<Part<'a>> {
+        let (field, rest) = first_field(self.rest?);
+        self.rest = rest;
+        Some(field)
+    }
 }
 
 impl<'a> Reader<'a> {
     // A reader of the whole text, before its first line.
     pub fn new(text: &'a [u8]) -> Reader<'a>
-        ensures lines { lines_left result ≡ lines_at text_start text.now }
-        ensures fields { fields_left result ≡ [] }
+        ensures left { lines_left result ≡ lines_at text_start text.now }
         ensures parted { Lined text.now (lines_left result) }
     {
-        start_of(text)
+        let place = Place { line: 1, byte: 0 };
+        Reader {
+            rest: Part { place, bytes: text },
+        }
     }
+}
 
-    // The next line, without its newline. Its fields are handed out from now on.
-    pub fn next_line(&mut self) -> Option<Part<'a>>
-        ensures hands { Hands result (lines_left self.old) (lines_left self.new) }
-        ensures fields { fields_left self.new ≡ fields_of result }
-        ensures parted { Fielded result (fields_left self.new) }
-    {
-        let text = self.rest;
-        if text.len() == 0 {
-            self.open = false;
+// The next line is handed out, without its newline, and the others are left.
+impl<'a> Iterator for Reader<'a> {
+    type Item = Line<'a>;
+
+    ghost next_gives = { YieldsFirstBy line_piece lines_left };
+
+    ghost remaining = { item_count lines_left };
+
+    fn next(&mut self) -> Option<Line<'a>> {
+        if self.rest.bytes.is_empty() {
             return None;
         }
-        let cut = first_line(self.count, self.at, text);
-        self.line = cut.first;
-        self.open = true;
-        self.count = cut.first.place.line;
-        self.at = cut.at;
-        self.rest = cut.rest;
-        Some(cut.first)
-    }
-
-    // The next field of the line that was handed out last.
-    pub fn next_field(&mut self) -> Option<Part<'a>>
-        ensures hands { Hands result (fields_left self.old) (fields_left self.new) }
-        ensures lines { lines_left self.new ≡ lines_left self.old }
-    {
-        if !self.open {
-            return None;
-        }
-        let (field, rest, more) = first_field(self.line);
-        self.line = rest;
-        self.open = more;
-        Some(field)
+        let (line, rest) = first_line(self.rest);
+        self.rest = rest;
+        Some(line)
     }
 }
