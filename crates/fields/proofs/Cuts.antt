@@ -1,5 +1,5 @@
 -- Bytes that are cut at their first byte b.
-use Rattle.std.proofs.Common.{◌≡◌, ℕ, suc, ◌+◌, ◌-◌, ◌<◌, ◌≤◌, not, eqb, ltb, List, [], ◌∷◌, ◌++◌, length, get_or, take, drop, Some, None, sym, refl, ap, ◌∙◌, arith, position, add-one}
+use Rattle.std.proofs.Common.{◌≡◌, ℕ, suc, ◌+◌, ◌-◌, ◌<◌, ◌≤◌, not, eqb, ltb, List, [], ◌∷◌, ◌++◌, length, get_or, take, drop, Some, None, sym, ap, ◌∙◌, arith, position, add-one}
 use Rattle.std.specs.List.{position_or_len}
 use Rattle.std.proofs.Math.Seq.{drop-cons}
 use Rattle.std.proofs.lemmas.List.{take-append-drop}
@@ -14,7 +14,7 @@ module _ (b : ℕ) where
 
   none-before : (bs : List ℕ) → Without b (take (up_to bs) bs)
   none-before [] = tt
-  none-before (x ∷ xs) = cond_both (not (eqb x b)) (1 + up_to xs) 0 (λ n. Without b (take n (x ∷ xs))) 
+  none-before (x ∷ xs) = cond_both (not (eqb x b)) (1 + up_to xs) 0 (λ n. Without b (take n (x ∷ xs)))
       (λ e. let k : 1 + up_to xs ≡ suc (up_to xs) = omega arith in rw k (eqb-false x b (not-true _ e), none-before xs))
       (λ _. tt)
 

@@ -191,8 +191,8 @@ lined text =
     all [] = refl
     all (x ∷ xs) = refl
 
-pub fielded-at : (l : Piece) → FieldsOfLine l (fields_at l)
-fielded-at (p, bytes) =
+pub fielded_at : (l : Piece) → FieldsOfLine l (fields_at l)
+fielded_at (p, bytes) =
     record {
       joined = ap (join_with_byte 9) (bytes-of-fields p (split 9 bytes)) ∙ join-split 9 bytes;
       apart = fields-all (Without 9) p (split 9 bytes) (split-without 9 bytes);

@@ -1,31 +1,32 @@
 -- Digits and the numerals of numbers.
 use Rattle.std.specs.Borrow.{Bor}
+use Rattle.std.specs.Option.{SomeIff}
 use Rattle.std.specs.Result.{OkIff, result_ok}
 use Rattle.std.specs.Str.Parse.{digits_value, ParsesUnsigned}
 use Rattle.std.proofs.lemmas.Str.{IsUtf8-from_ascii}
-use Rattle.std.proofs.Common.{◌≡◌, ℕ, suc, ◌+◌, ◌-◌, ◌*◌, ◌^◌, ◌<◌, ◌≤◌, Bool, true, false, cond, ◌&&◌, eqb, leb, List, [], ◌∷◌, length, get_or, take, drop, Result, Ok, Err, ◌≢◌, FitsSigned, MatchResult, subst, w32, ℤ, pos, negsuc, Some, None, decimal, Option, sym, refl, ap, ◌∙◌, ⊎_elim, arith, rules}
+use Rattle.std.proofs.Common.{◌≡◌, ℕ, suc, ◌-◌, ◌^◌, ◌<◌, ◌≤◌, true, List, [], ◌∷◌, length, get_or, take, drop, Result, Ok, Err, ◌≢◌, FitsSigned, MatchResult, subst, w32, ℤ, pos, negsuc, Some, None, decimal, Option, sym, refl, ap, ◌∙◌, ⊎_elim, arith}
 use Rattle.std.specs.Str.{all_ascii_digits, IsUtf8}
-use Rattle.std.proofs.lemmas.List.{at_drop_more, take_all}
-use Rattle.std.proofs.lemmas.Bool.{lt-leb, le-leb, leb-true, leb-false, eqb-true, eqb-false, and_left, and_right, and_from, and_parts, false≢true, cases_eq, cond_both}
+use Rattle.std.proofs.lemmas.List.{take_all}
+use Rattle.std.proofs.lemmas.Bool.{leb-true, and_parts, cases_eq}
 use Rattle.std.proofs.lemmas.Str.Parse.{IsNumeralModel, numerals_by_value, tells_all_ascii_digits, parse_plain}
 use Rattle.std.proofs.lemmas.Fmt.{decimal-digits_value, digits_decimal, digits_value-decimal, decimal_nonempty, first_decimal, decimal_digit, decimal_injective, IsAscii-decimal}
 use Rattle.fields.specs.Numbers.{Reads, Number, Amount}
 
-own : IsNumeralModel (λ ds. all_ascii_digits ds ≡ true) (digits_value 10)
+pub own : IsNumeralModel (λ ds. all_ascii_digits ds ≡ true) (digits_value 10)
 own = numerals_by_value _ tells_all_ascii_digits
 
 -- a numeral is its number's one text
 written : (bs : List ℕ) (n : ℕ) → all_ascii_digits bs ≡ true → 0 < length bs → (get_or bs 0 0 ≡ 48 → length bs ≡ 1) → digits_value 10 bs ≡ n → n ≤ 4294967295 → bs ≡ decimal n
 written bs n d some lead e small = let l : digits_value 10 bs < 2 ^ 64 = omega arith in sym (decimal-digits_value own bs d some lead l) ∙ ap decimal e
 
-digits_of : (bs : List ℕ) (n : ℕ) → Number bs n → (all_ascii_digits bs ≡ true) × (digits_value 10 bs ≡ n)
+pub digits_of : (bs : List ℕ) (n : ℕ) → Number bs n → (all_ascii_digits bs ≡ true) × (digits_value 10 bs ≡ n)
 digits_of bs n (e, small) = let l : n < 2 ^ 64 = omega arith in (ap all_ascii_digits e ∙ digits_decimal own n l, ap (digits_value 10) e ∙ digits_value-decimal own n l)
 
-some_of : (bs : List ℕ) (n : ℕ) → Number bs n → 0 < length bs
+pub some_of : (bs : List ℕ) (n : ℕ) → Number bs n → 0 < length bs
 some_of bs n (e, small) = let l : n < 2 ^ 64 = omega arith in omega (arith, ap length e, decimal_nonempty n l)
 
 -- its first byte is a digit
-first-digit : (bs : List ℕ) (n : ℕ) → Number bs n → 48 ≤ get_or bs 0 0
+pub first-digit : (bs : List ℕ) (n : ℕ) → Number bs n → 48 ≤ get_or bs 0 0
 first-digit [] n s = omega (arith, some_of [] n s)
 first-digit (b ∷ bs) n s = leb-true 48 b (and_parts _ _ (and_parts _ _ (digits_of (b ∷ bs) n s).0).0).0
 
@@ -79,12 +80,9 @@ module _ (bs ds : List ℕ) (e : bs ≡ 45 ∷ ds) where
   pub minus-none : Reads (Number ds) None → Reads (Amount bs) None
   minus-none h z s = let p = neg_of bs ds z e s in h (suc p.0) (p.2, omega arith)
 
-  pub minus-zero : (n : ℕ) → n ≡ 0 → Number ds n → Reads (Amount bs) None
-  minus-zero n k (s, l) z a = let p = neg_of bs ds z e a in omega (arith, same n (suc p.0) ds s p.2 l (omega arith))
-
-  pub minus-some : {E : Type 0} (n : ℕ) (z : ℤ) (r : Result ℤ E) → Number ds n → z ≡ negsuc (n - 1) → n ≢ 0 → OkIff r (FitsSigned w32 z) z → Reads (Amount bs) (result_ok r)
-  minus-some n z (Ok x) (s, l) k some (fits, is) = rw (is, k) (e ∙ ap (λ l. 45 ∷ l) (s ∙ ap decimal (let q : n ≡ suc (n - 1) = omega arith in q)), omega (arith, rw k at fits))
-  minus-some n z (Err x) (s, l) k some wide = λ y a. let p = neg_of bs ds y e a in wide (rw k (omega (arith, same n (suc p.0) ds s p.2 l (omega arith))))
+  pub minus-some : (n : ℕ) (r : Option ℤ) → Number ds n → SomeIff r ((n ≢ 0) × (n ≤ 2147483648)) (negsuc (n - 1)) → Reads (Amount bs) r
+  minus-some n (Some x) (s, l) ((some, fits), is) = let k : n ≡ suc (n - 1) = omega arith in rw is (e ∙ ap (λ l. 45 ∷ l) (s ∙ ap decimal k), omega arith)
+  minus-some n None (s, l) none = λ z a. let p = neg_of bs ds z e a in let k : n ≡ suc p.0 = same n (suc p.0) ds s p.2 l (omega arith) in none (omega arith, omega arith)
 
 pub plain-some : {E : Type 0} (bs ds : List ℕ) (n : ℕ) (r : Result ℤ E) → (ds ≡ bs) × (get_or bs 0 0 ≡ 45 → ⊥) → Number ds n → OkIff r (FitsSigned w32 (pos n)) (pos n) → Reads (Amount bs) (result_ok r)
 plain-some bs ds n (Ok x) (d, e) (s, l) (fits, is) = rw is (sym d ∙ s, omega (arith, fits))

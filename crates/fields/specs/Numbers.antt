@@ -1,8 +1,7 @@
 -- What the bytes of a field write, by the one numeral that each value has.
-use Rattle.std.specs.Prelude.{◌≡◌, ℕ, ◌+◌, ◌-◌, ◌*◌, ◌≤◌, true, cond, List, [], ◌∷◌, ℤ, pos, negsuc, Some, None, Ok, Err, decimal, Option, Result, ◌==◌, ◌≢◌, nat_le, slice_index}
+use Rattle.std.specs.Prelude.{◌≡◌, ℕ, ◌≤◌, List, ◌∷◌, ℤ, Some, None, Ok, Err, decimal, Option, Result, ◌≢◌, slice_index}
 use Rattle.std.specs.Int.Signed.{mag}
 use Rattle.std.specs.Fmt.{signed_decimal}
-use Rattle.std.specs.Str.{all_ascii_digits}
 use Rattle.fields.specs.declared.types.Field.{Field}
 use Rattle.fields.specs.declared.types.Field.TheVariants.{Minus, Plain}
 use Rattle.faults.specs.declared.types.FieldFault.{FieldFault}

@@ -1,5 +1,5 @@
 // The numbers and amounts that fields write.
-ghost use Rattle.std.specs.Prelude.{◌≡◌};
+ghost use Rattle.std.specs.Prelude.{◌≢◌, ◌-◌, ◌≤◌, negsuc, SomeIff};
 ghost use Rattle.fields.specs.Numbers.{Number, Amount, Reads, FieldRead, Begins};
 ghost use Rattle.faults.specs.declared.types.FieldFault.TheVariants.{BadNumber};
 
@@ -30,15 +30,22 @@ fn number_of(bytes: &[u8]) -> Option<u32>
     }
 }
 
+// -n, where that is below 0 and an amount.
+fn negated(n: u32) -> Option<i32>
+    ensures { SomeIff result ((n ≢ 0) × (n ≤ 2147483648)) (negsuc (n - 1)) }
+{
+    match n {
+        0 => None,
+        n => i32::try_from(-i64::from(n)).ok(),
+    }
+}
+
 // The amount whose numeral the bytes are.
 fn amount_of(bytes: &[u8]) -> Option<i32>
     ensures { Reads (Amount bytes.now) result }
 {
     match field_of(bytes) {
-        Field::Minus(digits) => match number_of(digits)? {
-            0 => None,
-            n => i32::try_from(-i64::from(n)).ok(),
-        },
+        Field::Minus(digits) => negated(number_of(digits)?),
         Field::Plain(digits) => i32::try_from(number_of(digits)?).ok(),
     }
 }

@@ -18,14 +18,14 @@ pub struct Line<'a> {
 }
 
 // A line that is handed out field after field.
-#[derive(Clone, Copy)]
+#[derive(Drop)]
 pub struct Fields<'a> {
     // what is left of the line; nothing once its last field is handed out
     pub(crate) rest: Option<Line<'a>>,
 }
 
 // A text that is handed out line after line. The ghost fields say that no place can wrap.
-#[derive(Clone, Copy)]
+#[derive(Drop)]
 pub struct Reader<'a> {
     // what is left of the text, from where the next line begins
     pub(crate) rest: Part<'a>,

@@ -82,13 +82,20 @@ fn first_field<'a>(line: Line<'a>) -> (Part<'a>, Option<Line<'a>>)
     )
 }
 
+// All fields of a line.
+fn all_fields<'a>(line: Line<'a>) -> Fields<'a>
+    ensures { fields_left result ≡ fields_at (line_piece line.entry) }
+{
+    Fields { rest: Some(line) }
+}
+
 impl<'a> Line<'a> {
     // The fields of the line, of which there is at least one.
     pub fn fields(self) -> Fields<'a>
-        ensures left { fields_left result ≡ fields_at (line_piece self.entry) }
+        ensures fields { fields_left result ≡ fields_at (line_piece self.entry) }
         ensures parted { FieldsOfLine (line_piece self.entry) (fields_left result) }
     {
-        Fields { rest: Some(self) }
+        all_fields(self)
     }
 }
 
@@ -107,16 +114,23 @@ impl<'a> Iterator for Fields<'a> {
     }
 }
 
+// All lines of a text.
+fn all_lines(text: &[u8]) -> Reader
+    ensures { lines_left result ≡ lines_at text_start text.now }
+{
+    let place = Place { line: 1, byte: 0 };
+    Reader {
+        rest: Part { place, bytes: text },
+    }
+}
+
 impl<'a> Reader<'a> {
     // A reader of the whole text, before its first line.
     pub fn new(text: &'a [u8]) -> Reader<'a>
-        ensures left { lines_left result ≡ lines_at text_start text.now }
+        ensures lines { lines_left result ≡ lines_at text_start text.now }
         ensures parted { Lined text.now (lines_left result) }
     {
-        let place = Place { line: 1, byte: 0 };
-        Reader {
-            rest: Part { place, bytes: text },
-        }
+        all_lines(text)
     }
 }
 

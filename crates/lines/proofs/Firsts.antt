@@ -1,22 +1,25 @@
 -- The first trouble of a line.
-use Rattle.std.proofs.Common.{◌≡◌, ℕ, zero, suc, ◌+◌, ◌*◌, ◌<◌, ◌≤◌, cond, eqb, List, [], ◌∷◌, length, get_or, Some, None, Option, sym, refl, ap, ◌∙◌, subst, inl, inr, ⊎_elim, arith}
+use Rattle.std.proofs.Common.{◌≡◌, ℕ, zero, suc, ◌+◌, ◌*◌, ◌<◌, ◌≤◌, cond, eqb, List, [], ◌∷◌, length, get_or, Some, None, Option, Ok, sym, refl, ap, ◌∙◌, subst, inl, inr, ⊎_elim, arith}
 use Rattle.std.specs.List.{slice_get}
 use Rattle.std.proofs.lemmas.Bool.{cases_lt}
 use Rattle.faults.specs.declared.types.FieldFault.{FieldFault}
 use Rattle.fields.specs.Parts.{Piece, fields_at}
 use Rattle.faults.specs.declared.types.LineFault.TheVariants as in_line
-use Rattle.lines.specs.declared.types.CallParts.{CallParts}
-use Rattle.lines.specs.declared.types.CallParts.TheVariants as calls
+use Rattle.parts.specs.declared.calls.Call.{Call}
+use Rattle.fields.specs.declared.parts.Part.{Part}
+use Rattle.parts.specs.declared.calls.Call.TheVariants as calls
 use Rattle.entries.specs.declared.types.Letter.{Letter}
 use Rattle.entries.specs.declared.types.Letter.TheVariants as letter
 use Rattle.entries.specs.declared.types.Word.{Word}
 use Rattle.entries.specs.declared.types.Word.TheVariants as word
-use Rattle.lines.specs.declared.types.Line.{Line}
-use Rattle.lines.specs.declared.types.Line.TheVariants as line
+use Rattle.lines.specs.declared.types.LineParts.{LineParts}
+use Rattle.lines.specs.declared.types.LineParts.TheVariants as line
 use Rattle.lines.specs.declared.types.Stage.{Stage}
-use Rattle.entries.specs.Rendering.{word_text, letter_text}
+use Rattle.entries.specs.Rendering.{word_text, letter_text, letter_of}
 use Rattle.lines.specs.Faults.{Kind, kinds, operand_kinds, Counted, Placed, Good, Trouble, unknown, misplaced, miscounted, bad, Leads, Wrong, order, First, field_fault}
-use Rattle.lines.specs.Steps.{line_parts, line_word, operand_parts, parts_letter, FirstBad, MadeOf, Troubled}
+use Rattle.lines.specs.Steps.{line_parts, line_word, operand_parts, FirstBad, MadeOf, Troubled, LedBy, Shaped, LineShaped}
+use Rattle.std.specs.Option.{ok_or}
+use Rattle.faults.specs.declared.types.LineFault.{LineFault}
 
 -- a text is that of one word at most
 
@@ -139,7 +142,7 @@ module _ (s : Stage) (f : Piece) (gs : List Piece) (w : Word) (leads : f.1 ≡ w
 
 -- a line that has its shape has the right number of fields
 
-operands-counted : (k : CallParts) → length (operand_parts k) ≡ length (operand_kinds (parts_letter k))
+operands-counted : (k : Call Part Part) → length (operand_parts k) ≡ length (operand_kinds (letter_of k))
 operands-counted calls.Open = refl
 operands-counted (calls.Read c) = refl
 operands-counted (calls.Write c a) = refl
@@ -149,7 +152,7 @@ operands-counted calls.Jolt = refl
 operands-counted calls.Again = refl
 operands-counted calls.Drop = refl
 
-shape-counted : (l : Line) → Counted (line_word l) (length (line_parts l))
+shape-counted : (l : LineParts) → Counted (line_word l) (length (line_parts l))
 shape-counted (line.Rig h c b None) = (omega arith, omega arith)
 shape-counted (line.Rig h c b (Some p)) = (omega arith, omega arith)
 shape-counted (line.Set c a) = (omega arith, omega arith)
@@ -157,14 +160,21 @@ shape-counted (line.Call h k) = let e = operands-counted k in (omega arith, omeg
 
 -- the same of the fields of a line as the code has them
 
-module _ (s : Stage) (l : Piece) (f : Piece) (gs : List Piece) (w : Word) (fields : fields_at l ≡ f ∷ gs) (leads : f.1 ≡ word_text w) where
-  pub line-misplaced : (Placed s w → ⊥) → Troubled s l (in_line.Misplaced l.0)
-  line-misplaced off = let P : List Piece → Type 0 = λ x. First s x misplaced in (misplaced, subst P (sym fields) (misplaced-here s f gs w leads off), refl)
+module _ (s : Stage) (l : Piece) (gs : List Piece) where
+  -- its word, where it has one
+  pub led : (fs : List Piece) (o : Option Word) (e : LineFault) (w : Word) → fs ≡ fields_at l → LedBy fs gs o → Ok w ≡ ok_or o e → LedBy (fields_at l) gs (Some w)
+  led fs None e w at h is = absurd cc
+  led fs (Some v) e w at h is = let k : v ≡ w = cc in rw (at, k) at h
 
-  pub line-miscounted : Placed s w → (Counted w (length gs) → ⊥) → Troubled s l (in_line.Miscounted l.0)
-  line-miscounted here off = let P : List Piece → Type 0 = λ x. First s x miscounted in (miscounted, subst P (sym fields) (miscounted-here s f gs w leads here off), refl)
+  module _ (w : Word) (has : LedBy (fields_at l) gs (Some w)) where
+    pub line-misplaced : (Placed s w → ⊥) → Troubled s l (in_line.Misplaced l.0)
+    line-misplaced off = let P : List Piece → Type 0 = λ x. First s x misplaced in (misplaced, subst P (sym has.1) (misplaced-here s has.0 gs w has.2 off), refl)
 
-pub line-bad : (s : Stage) (at : Piece) (l : Line) (fault : FieldFault) → MadeOf at l → Placed s (line_word l) → FirstBad (kinds (line_word l)) (line_parts l) fault → Troubled s at (in_line.Field fault)
+    pub line-shaped : (o : Option LineParts) → Placed s w → Shaped w gs o → LineShaped s l (ok_or o (in_line.Miscounted l.0))
+    line-shaped None here h = let P : List Piece → Type 0 = λ x. First s x miscounted in (miscounted, subst P (sym has.1) (miscounted-here s has.0 gs w has.2 here h), refl)
+    line-shaped (Some p) here (word, parts) = ((has.0, rw parts has.1, rw word has.2), rw word here)
+
+pub line-bad : (s : Stage) (at : Piece) (l : LineParts) (fault : FieldFault) → MadeOf at l → Placed s (line_word l) → FirstBad (kinds (line_word l)) (line_parts l) fault → Troubled s at (in_line.Field fault)
 line-bad s at l fault (f, fields, leads) here bads =
     let b = bad-at (kinds (line_word l)) (line_parts l) fault bads in
     let P : List Piece → Type 0 = λ x. First s x (bad b.kind b.k b.f) in (

@@ -3,17 +3,18 @@ use Rattle.std.proofs.Common.{◌≡◌, ℕ, suc, ◌-◌, ◌≤◌, cond, eqb
 use lib.Signed.{mag}
 use Rattle.std.specs.List.{slice_get}
 use Rattle.std.specs.Fmt.{signed_decimal}
+use Rattle.std.specs.Str.Parse.{digits_value}
 use Rattle.std.proofs.lemmas.Fmt.{digits_value-decimal}
 use Rattle.std.proofs.lemmas.Bool.{cond-false, ne_eqb}
-use Rattle.fields.specs.Numbers.{Number, after}
+use Rattle.fields.specs.Numbers.{Number}
 use Rattle.fields.specs.Parts.{Piece, fields_at}
-use Rattle.fields.proofs.Numerals.{own, digits_of, some_of, no_minus}
+use Rattle.fields.proofs.Numerals.{own, digits_of, some_of, first-digit}
 use Rattle.entries.specs.declared.types.BoardName.{BoardName}
 use Rattle.entries.specs.declared.types.BoardName.TheVariants as board
 use Rattle.entries.specs.declared.types.PolicyName.{PolicyName}
 use Rattle.entries.specs.declared.types.PolicyName.TheVariants as policy
-use Rattle.entries.specs.declared.types.Call.{Call}
-use Rattle.entries.specs.declared.types.Call.TheVariants as call
+use Rattle.parts.specs.declared.calls.Call.{Call}
+use Rattle.parts.specs.declared.calls.Call.TheVariants as call
 use Rattle.entries.specs.declared.types.Entry.{Entry}
 use Rattle.entries.specs.declared.types.Entry.TheVariants as entry
 use Rattle.entries.specs.declared.types.Letter.{Letter}
@@ -29,20 +30,20 @@ use Rattle.lines.proofs.Texts.{says-fields}
 
 -- the value that a field writes, got back from its bytes
 
-num-back : (n : ℕ) → n ≤ 4294967295 → after 0 (decimal n) ≡ n
+num-back : (n : ℕ) → n ≤ 4294967295 → digits_value 10 (decimal n) ≡ n
 num-back n h = digits_value-decimal own n (omega arith)
 
 abbrev amount_back : List ℕ → ℤ
 amount_back [] = pos 0
-amount_back (b ∷ bs) = cond (eqb b 45) (negsuc (after 0 bs - 1)) (pos (after 0 (b ∷ bs)))
+amount_back (b ∷ bs) = cond (eqb b 45) (negsuc (digits_value 10 bs - 1)) (pos (digits_value 10 (b ∷ bs)))
 
 pos-back : (bs : List ℕ) (n : ℕ) → Number bs n → amount_back bs ≡ pos n
 pos-back [] n s = absurd (omega (arith, some_of [] n s))
-pos-back (b ∷ bs) n s = cond-false (eqb b 45) (negsuc (after 0 bs - 1)) (pos (after 0 (b ∷ bs))) (ne_eqb b 45 (no_minus (b ∷ bs) n s)) ∙ ap pos (digits_of (b ∷ bs) n s).1
+pos-back (b ∷ bs) n s = cond-false (eqb b 45) (negsuc (digits_value 10 bs - 1)) (pos (digits_value 10 (b ∷ bs))) (ne_eqb b 45 (λ e. omega (arith, first-digit (b ∷ bs) n s))) ∙ ap pos (digits_of (b ∷ bs) n s).1
 
 amount-back : (z : ℤ) → mag z ≤ 2147483647 → amount_back (signed_decimal z) ≡ z
 amount-back (pos n) h = pos-back (decimal n) n (refl, omega arith)
-amount-back (negsuc n) h = let e : after 0 (decimal (suc n)) - 1 ≡ n = omega (arith, num-back (suc n) (omega arith)) in ap negsuc e
+amount-back (negsuc n) h = let e : digits_value 10 (decimal (suc n)) - 1 ≡ n = omega (arith, num-back (suc n) (omega arith)) in ap negsuc e
 
 abbrev board_back : List ℕ → BoardName
 board_back bs = cond (eqb (length bs) 6) board.Stores board.Lines
@@ -62,9 +63,9 @@ abbrev at : List (List ℕ) → ℕ → List ℕ
 at fs k = get_or fs k []
 
 abbrev num : List (List ℕ) → ℕ → ℕ
-num fs k = after 0 (at fs k)
+num fs k = digits_value 10 (at fs k)
 
-abbrev call_back : Letter → ℕ → ℤ → Call
+abbrev call_back : Letter → ℕ → ℤ → Call ℕ ℤ
 call_back letter.Open c z = call.Open
 call_back letter.Read c z = call.Read c
 call_back letter.Write c z = call.Write c z
@@ -80,7 +81,7 @@ rig h c b p = entry.Rig (record { heads = h; cells = c; board = b; policy = p })
 abbrev setting : ℕ → ℤ → Entry
 setting c z = entry.Set (record { cell = c; amount = z })
 
-abbrev calling : ℕ → Call → Entry
+abbrev calling : ℕ → Call ℕ ℤ → Entry
 calling h k = entry.Call (record { head = h; call = k })
 
 abbrev back : Word → List (List ℕ) → Entry
@@ -88,7 +89,7 @@ back word.Rig fs = rig (num fs 0) (num fs 1) (board_back (at fs 2)) (policy_back
 back word.Set fs = setting (num fs 0) (amount_back (at fs 1))
 back (word.Call l) fs = calling (num fs 0) (call_back l (num fs 1) (amount_back (at fs 2)))
 
-operands-back : (h : List ℕ) (k : Call) → CallFits k → call_back (letter_of k) (num (h ∷ operands k) 1) (amount_back (at (h ∷ operands k) 2)) ≡ k
+operands-back : (h : List ℕ) (k : Call ℕ ℤ) → CallFits k → call_back (letter_of k) (num (h ∷ operands k) 1) (amount_back (at (h ∷ operands k) 2)) ≡ k
 operands-back h call.Open u = refl
 operands-back h (call.Read c) u = ap call.Read (num-back c u)
 operands-back h (call.Write c z) (u, v) = ap (λ x. call.Write x (amount_back (signed_decimal z))) (num-back c u) ∙ ap (call.Write c) (amount-back z v)

@@ -13,8 +13,8 @@ use Rattle.entries.specs.declared.types.BoardName.{BoardName}
 use Rattle.entries.specs.declared.types.BoardName.TheVariants as board
 use Rattle.entries.specs.declared.types.PolicyName.{PolicyName}
 use Rattle.entries.specs.declared.types.PolicyName.TheVariants as policy
-use Rattle.entries.specs.declared.types.Call.{Call}
-use Rattle.entries.specs.declared.types.Call.TheVariants as call
+use Rattle.parts.specs.declared.calls.Call.{Call}
+use Rattle.parts.specs.declared.calls.Call.TheVariants as call
 use Rattle.entries.specs.declared.types.Letter.{Letter}
 use Rattle.entries.specs.declared.types.Letter.TheVariants as letter
 use Rattle.entries.specs.declared.types.Word.{Word}
@@ -76,7 +76,7 @@ solid-word word.Rig = refl
 solid-word word.Set = refl
 solid-word (word.Call l) = solid-letter l
 
-solid-operands : (k : Call) → CallFits k → AllByRecursion Solid (operands k)
+solid-operands : (k : Call ℕ ℤ) → CallFits k → AllByRecursion Solid (operands k)
 solid-operands call.Open u = tt
 solid-operands (call.Read c) u = (solid-decimal c u, tt)
 solid-operands (call.Write c z) (u, v) = (solid-decimal c u, (solid-signed z v, tt))

@@ -1,18 +1,18 @@
 -- What a line that says something looks like: its fields, and that nothing is wrong with it.
-use Rattle.std.proofs.Common.{◌≡◌, ℕ, zero, suc, ◌<◌, List, [], ◌∷◌, length, Some, sym, refl, ap, ◌∙◌, subst, inl, inr, ⊎_elim, arith, length-append}
+use Rattle.std.proofs.Common.{◌≡◌, ℕ, zero, suc, ◌<◌, List, [], ◌∷◌, length, ℤ, Some, sym, refl, ap, ◌∙◌, subst, inl, inr, ⊎_elim, arith, length-append}
 use Rattle.std.specs.List.{slice_get, AllByRecursion, join_with_byte}
 use Rattle.faults.specs.declared.types.Place.{Place}
 use Rattle.fields.specs.Parts.{Piece, split, bytes_of, after_field, fields_from, fields_at, Without}
 use Rattle.fields.proofs.Joins.{split-joined, join-split, bytes-of-fields}
-use Rattle.entries.specs.declared.types.Call.{Call}
-use Rattle.entries.specs.declared.types.Call.TheVariants as call
+use Rattle.parts.specs.declared.calls.Call.{Call}
+use Rattle.parts.specs.declared.calls.Call.TheVariants as call
 use Rattle.entries.specs.declared.types.Entry.{Entry}
 use Rattle.entries.specs.declared.types.Entry.TheVariants as entry
 use Rattle.entries.specs.declared.types.Letter.{Letter}
 use Rattle.entries.specs.declared.types.Letter.TheVariants as letter
 use Rattle.entries.specs.declared.types.Word.{Word}
 use Rattle.entries.specs.declared.types.Word.TheVariants as word
-use Rattle.lines.specs.declared.types.Line.{Line}
+use Rattle.lines.specs.declared.types.LineParts.{LineParts}
 use Rattle.lines.specs.declared.types.Stage.{Stage}
 use Rattle.faults.specs.declared.types.LineFault.{LineFault}
 use Rattle.entries.specs.Rendering.{word_text, letter_text, word_of, letter_of, operands, values, ShortValues, CallFits, Fits, joined, Says}
@@ -57,7 +57,7 @@ says-fields bytes e (u, inr (fs, s, h)) =
     (fs, ap (split 9) h ∙ split-joined 9 (word_text (word_of e) ∷ fs) (omega arith) (all_without 9 (word_text (word_of e) ∷ fs) (omega arith) (solid-fields e fs u (inr s))), inr s)
 
 -- the fields of a line, and what they say
-pub fields-said : (at : Piece) (l : Line) (e : Entry) → MadeOf at l → word_of e ≡ line_word l → Valued e (line_parts l) → Says at.1 e
+pub fields-said : (at : Piece) (l : LineParts) (e : Entry) → MadeOf at l → word_of e ≡ line_word l → Valued e (line_parts l) → Says at.1 e
 fields-said (p, bytes) l e (f, fields, leads) word (u, h) =
     let fs : List (List ℕ) = bytes_of (line_parts l) in
     let parts : split 9 bytes ≡ word_text (word_of e) ∷ fs = sym (bytes-of-fields p (split 9 bytes)) ∙ ap bytes_of fields ∙ ap (λ x. x ∷ fs) (leads ∙ ap word_text (sym word)) in
@@ -77,7 +77,7 @@ good-at (l ∷ ks) [] j k f a p q = let z : ◌≡◌ {A = ℕ} 0 1 = cc in absu
 good-at (l ∷ ks) (g ∷ fs) zero k f (a, r) p q = let P : Kind → Type 0 = λ x. Good x f in let Q : List ℕ → Type 0 = λ x. Good l x in subst P (some-eq l k p) (subst Q (some-eq g f q) a)
 good-at (l ∷ ks) (g ∷ fs) (suc j) k f (a, r) p q = good-at ks fs j k f r p q
 
-operands-good : (k : Call) → CallFits k → EachGood (operand_kinds (letter_of k)) (operands k)
+operands-good : (k : Call ℕ ℤ) → CallFits k → EachGood (operand_kinds (letter_of k)) (operands k)
 operands-good call.Open u = tt
 operands-good (call.Read c) u = ((c, (refl, u)), tt)
 operands-good (call.Write c z) (u, v) = ((c, (refl, u)), ((z, (refl, v)), tt))
@@ -87,7 +87,7 @@ operands-good call.Jolt u = tt
 operands-good call.Again u = tt
 operands-good call.Drop u = tt
 
-operands-many : (k : Call) → length (operands k) ≡ length (operand_kinds (letter_of k))
+operands-many : (k : Call ℕ ℤ) → length (operands k) ≡ length (operand_kinds (letter_of k))
 operands-many call.Open = refl
 operands-many (call.Read c) = refl
 operands-many (call.Write c z) = refl
@@ -149,5 +149,5 @@ said-or-wrong s (p, bytes) e t said here wrong =
 pub refused : (s : Stage) (l : Piece) (f : LineFault) → Troubled s l f → Refused s l f
 refused s l f (t, first, is) = record { trouble = t; first = first; is = is; nothing = λ e said here. said-or-wrong s l e t said here first.wrong }
 
-pub line-said : (s : Stage) (at : Piece) (l : Line) (e : Entry) → MadeOf at l × Placed s (line_word l) → (word_of e ≡ line_word l) × Valued e (line_parts l) → Says at.1 e × Placed s (word_of e)
+pub line-said : (s : Stage) (at : Piece) (l : LineParts) (e : Entry) → MadeOf at l × Placed s (line_word l) → (word_of e ≡ line_word l) × Valued e (line_parts l) → Says at.1 e × Placed s (word_of e)
 line-said s at l e (fields, here) (word, valued) = let P : Word → Type 0 = λ w. Placed s w in (fields-said at l e fields word valued, subst P (sym word) here)

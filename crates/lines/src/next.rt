@@ -1,16 +1,15 @@
 // Reading the next line.
 ghost use Rattle.std.specs.Prelude.{◌≡◌, Decides};
-ghost use Rattle.fields.specs.Parts.{piece, fields_at, fields_left, lines_left};
+ghost use Rattle.fields.specs.Parts.{line_piece, lines_left, fields_left};
 ghost use Rattle.lines.specs.Faults.{Placed, stage_after, LineRead, NextRead, LineOnce};
-ghost use Rattle.lines.specs.Steps.{LineShaped};
+ghost use Rattle.lines.specs.Steps.{LedBy, LineShaped};
 
 use crate::shapes::shape;
-use crate::types::{Line, LineEntry, Stage};
+use crate::types::{LineEntry, LineParts, Stage};
 use crate::values::entry_of;
-use crate::words::word_of;
 use entries::{Entry, Word};
 use faults::LineFault;
-use fields::{Part, Reader};
+use fields::{Fields, Line, Reader};
 
 impl Stage {
     // Whether a line that begins with the word may stand here.
@@ -38,35 +37,32 @@ impl Stage {
     }
 }
 
-// The line that was handed out last, with its word in its place and its fields counted.
-fn line_of<'a>(stage: Stage, line: Part<'a>, reader: &mut Reader<'a>) -> Result<Line<'a>, LineFault>
-    requires { fields_left reader.old ≡ fields_at (piece line) }
-    ensures shaped { LineShaped stage (piece line.entry) result }
-    ensures lines { lines_left reader.new ≡ lines_left reader.old }
+// The word that a line begins with, taken off its fields.
+fn leading_word(fields: &mut Fields) -> Option<Word>
+    ensures { LedBy (fields_left fields.old) (fields_left fields.new) result }
 {
-    let Some(first) = reader.next_field() else {
-        return Err(LineFault::UnknownWord(line.place));
-    };
-    let Some(word) = word_of(first.bytes) else {
-        return Err(LineFault::UnknownWord(line.place));
-    };
-    if !stage.takes(word) {
-        return Err(LineFault::Misplaced(line.place));
-    }
-    match shape(word, reader) {
-        Some(shaped) => Ok(shaped),
-        None => Err(LineFault::Miscounted(line.place)),
-    }
+    Word::try_from(fields.next()?.bytes).ok()
 }
 
-// What the line that was handed out last says.
-fn line_entry<'a>(stage: Stage, line: Part<'a>, reader: &mut Reader<'a>) -> Result<Entry, LineFault>
-    requires { fields_left reader.old ≡ fields_at (piece line) }
-    ensures read { LineRead stage (piece line.entry) result }
-    ensures lines { lines_left reader.new ≡ lines_left reader.old }
+// The line, with its word in its place and its fields counted.
+fn line_of<'a>(stage: Stage, line: Line<'a>) -> Result<LineParts<'a>, LineFault>
+    ensures { LineShaped stage (line_piece line.entry) result }
 {
-    let shaped = line_of(stage, line, reader)?;
-    let said = entry_of(shaped)?;
+    let place = line.part.place;
+    let mut fields = line.fields();
+    let word = leading_word(&mut fields).ok_or(LineFault::UnknownWord(place))?;
+    if !stage.takes(word) {
+        return Err(LineFault::Misplaced(place));
+    }
+    shape(word, fields).ok_or(LineFault::Miscounted(place))
+}
+
+// What the line says.
+fn line_entry(stage: Stage, line: Line) -> Result<Entry, LineFault>
+    ensures { LineRead stage (line_piece line.entry) result }
+{
+    let parts = line_of(stage, line)?;
+    let said = entry_of(parts)?;
     Ok(said)
 }
 
@@ -75,10 +71,9 @@ pub fn next_entry(stage: Stage, reader: &mut Reader) -> Option<LineEntry>
     ensures next { NextRead stage (lines_left reader.old) (lines_left reader.new) result }
     ensures once { LineOnce }
 {
-    let line = reader.next_line()?;
-    let said = line_entry(stage, line, reader);
+    let line = reader.next()?;
     Some(LineEntry {
-        place: line.place,
-        said,
+        place: line.part.place,
+        said: line_entry(stage, line),
     })
 }

@@ -2,6 +2,7 @@
 use entries::Entry;
 use faults::{LineFault, Place};
 use fields::Part;
+use parts::Call;
 
 // What stood on the lines before: nothing; the rig, of so many cells, and settings; calls too.
 #[derive(Clone, Copy)]
@@ -11,22 +12,9 @@ pub enum Stage {
     Calls,
 }
 
-// A call whose operands are parts of the text.
-#[derive(Clone, Copy)]
-pub enum CallParts<'a> {
-    Open,
-    Read(Part<'a>),
-    Write(Part<'a>, Part<'a>),
-    Close,
-    Push,
-    Jolt,
-    Again,
-    Drop,
-}
-
 // A line by its word, with as many fields as the word wants, each a part of the text.
 #[derive(Clone, Copy)]
-pub enum Line<'a> {
+pub enum LineParts<'a> {
     Rig {
         heads: Part<'a>,
         cells: Part<'a>,
@@ -39,7 +27,7 @@ pub enum Line<'a> {
     },
     Call {
         head: Part<'a>,
-        call: CallParts<'a>,
+        call: Call<Part<'a>, Part<'a>>,
     },
 }
 

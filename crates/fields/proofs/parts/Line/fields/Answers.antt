@@ -1,5 +1,5 @@
-use Rattle.fields.proofs.Joins.{fielded-at}
+use Rattle.fields.proofs.Joins.{fielded_at}
 use Rattle.fields.proofs.parts.Line.fields.Goals as goal
 
 pub returns-clause-parted : goal.returns-clause-parted
-returns-clause-parted c = fielded-at _
+returns-clause-parted c = rw c.all_fields.ensures (fielded_at _)
