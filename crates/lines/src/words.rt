@@ -17,8 +17,5 @@ pub fn named<'a, W: TryFrom<&'a [u8], Error = UnknownWord>>(part: Part<'a>) -> R
 pub fn policy_of(part: Option<Part>) -> Result<PolicyName, FieldFault>
     ensures { PolicyRead part.entry result }
 {
-    match part {
-        Some(part) => named(part),
-        None => Ok(PolicyName::Plain),
-    }
+    part.map_or(Ok(PolicyName::Plain), |part| named(part))
 }
