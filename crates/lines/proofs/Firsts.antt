@@ -2,6 +2,7 @@
 use Rattle.std.proofs.Common.{◌≡◌, ℕ, zero, suc, ◌+◌, ◌*◌, ◌<◌, ◌≤◌, cond, eqb, List, [], ◌∷◌, length, get_or, Some, None, Option, Ok, sym, refl, ap, ◌∙◌, subst, inl, inr, ⊎_elim, arith}
 use Rattle.std.specs.List.{slice_get}
 use Rattle.std.proofs.lemmas.Bool.{cases_lt}
+use Rattle.std.proofs.lemmas.Option.{same_Some}
 use Rattle.faults.specs.declared.types.FieldFault.{FieldFault}
 use Rattle.fields.specs.Parts.{Piece, fields_at}
 use Rattle.faults.specs.declared.types.LineFault.TheVariants as in_line
@@ -56,9 +57,6 @@ pub one-leads : (fs : List Piece) (v w : Word) → Leads fs v → Leads fs w →
 one-leads [] v w p q = absurd p
 one-leads (f ∷ fs) v w p q = same_word v w (sym p ∙ q)
 
-pub some-eq : {X : Type 0} (x y : X) → ◌≡◌ {A = Option X} (Some x) (Some y) → x ≡ y
-some-eq x y e = cc
-
 -- a field is bad, and none before it is
 record BadAt (ks : List Kind) (fs : List Piece) (fault : FieldFault) : Type 0 where
   pub k : ℕ
@@ -92,7 +90,7 @@ bad-at (κ ∷ ks) (f ∷ fs) fault (inr (good, rest)) =
     earlier n h zero low l g p q u =
         let P : Kind → Type 0 = λ x. Good x f.1 in
         let Q : Piece → Type 0 = λ x. Good l x.1 in
-        u (subst Q (some-eq f g q) (subst P (some-eq κ l p) good))
+        u (subst Q (same_Some f g q) (subst P (same_Some κ l p) good))
     earlier n h (suc j) low l g p q u = h j (omega arith) l g p q u
 
 -- of a line with the fields f and gs, whose word is w

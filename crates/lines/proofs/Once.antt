@@ -6,6 +6,7 @@ use Rattle.std.specs.Fmt.{signed_decimal}
 use Rattle.std.specs.Str.Parse.{digits_value}
 use Rattle.std.proofs.lemmas.Fmt.{digits_value-decimal}
 use Rattle.std.proofs.lemmas.Bool.{cond-false, ne_eqb}
+use Rattle.std.proofs.lemmas.Option.{same_Some}
 use Rattle.fields.specs.Numbers.{Number}
 use Rattle.fields.specs.Parts.{Piece, fields_at}
 use Rattle.fields.proofs.Numerals.{own, digits_of, some_of, first-digit}
@@ -24,7 +25,7 @@ use Rattle.entries.specs.declared.types.Word.TheVariants as word
 use Rattle.lines.specs.declared.types.Stage.{Stage}
 use Rattle.entries.specs.Rendering.{Says, word_of, letter_of, board_text, policy_text, operands, CallFits, Fits}
 use Rattle.lines.specs.Faults.{Trouble, unknown, misplaced, miscounted, bad, Wrong, kinds, order, First, reported, LineOnce}
-use Rattle.lines.proofs.Firsts.{some-eq, same_word, one-leads}
+use Rattle.lines.proofs.Firsts.{same_word, one-leads}
 use Rattle.lines.specs.Steps.{Values}
 use Rattle.lines.proofs.Texts.{says-fields}
 
@@ -113,19 +114,13 @@ values-back (entry.Call k) fs (u, v) (inl h) =
     ∙ ap (calling k.head) (operands-back (decimal k.head) k.call v)
 values-back (entry.Call k) fs u (inr h) = absurd h
 
-cons_head : (x y : List ℕ) (xs ys : List (List ℕ)) → x ∷ xs ≡ y ∷ ys → x ≡ y
-cons_head x y xs ys e = cc
-
-cons_tail : (x y : List ℕ) (xs ys : List (List ℕ)) → x ∷ xs ≡ y ∷ ys → xs ≡ ys
-cons_tail x y xs ys e = cc
-
 pub says-once : (bytes : List ℕ) (d e : Entry) → Says bytes d → Says bytes e → d ≡ e
 says-once bytes d e p q =
     let x = says-fields bytes d p in
     let y = says-fields bytes e q in
     let same = sym x.1 ∙ y.1 in
-    let w : word_of d ≡ word_of e = same_word (word_of d) (word_of e) (cons_head _ _ _ _ same) in
-    sym (values-back d x.0 p.0 x.2) ∙ ap (λ v. back v x.0) w ∙ ap (back (word_of e)) (cons_tail _ _ _ _ same) ∙ values-back e y.0 q.0 y.2
+    let w : word_of d ≡ word_of e = same_word (word_of d) (word_of e) cc in
+    sym (values-back d x.0 p.0 x.2) ∙ ap (λ v. back v x.0) w ∙ ap (back (word_of e)) (let t : x.0 ≡ y.0 = cc in t) ∙ values-back e y.0 q.0 y.2
 
 module _ (s : Stage) (l : Piece) where
   once : (t u : Trouble) → order t ≡ order u → Wrong s (fields_at l) t → Wrong s (fields_at l) u → reported l.0 t ≡ reported l.0 u
@@ -149,8 +144,8 @@ module _ (s : Stage) (l : Piece) where
       let K : Word → Type 0 = λ z. slice_get (kinds z) i ≡ Some k in
       let I : ℕ → Type 0 = λ z. slice_get (kinds w) z ≡ Some k in
       let J : ℕ → Type 0 = λ z. slice_get (fields_at l) (suc z) ≡ Some f in
-      let d : k ≡ m = some-eq k m (sym (subst I same (subst K (one-leads (fields_at l) v w a b) p)) ∙ r) in
-      let h : f ≡ g = some-eq f g (sym (subst J same q) ∙ t) in
+      let d : k ≡ m = same_Some k m (sym (subst I same (subst K (one-leads (fields_at l) v w a b) p)) ∙ r) in
+      let h : f ≡ g = same_Some f g (sym (subst J same q) ∙ t) in
       ap (λ z. reported l.0 (bad z i f)) d ∙ ap (λ (z : Piece). reported l.0 (bad m i z)) h ∙ ap (λ z. reported l.0 (bad m z g)) same
 
   pub first-once : (t u : Trouble) → First s (fields_at l) t → First s (fields_at l) u → reported l.0 t ≡ reported l.0 u

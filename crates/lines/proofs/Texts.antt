@@ -1,6 +1,8 @@
 -- What a line that says something looks like: its fields, and that nothing is wrong with it.
 use Rattle.std.proofs.Common.{◌≡◌, ℕ, zero, suc, ◌<◌, List, [], ◌∷◌, length, ℤ, Some, sym, refl, ap, ◌∙◌, subst, inl, inr, ⊎_elim, arith, length-append}
+use Rattle.std.specs.Option.{option_map}
 use Rattle.std.specs.List.{slice_get, AllByRecursion, join_with_byte}
+use Rattle.std.proofs.lemmas.Option.{same_Some, slice_get-map}
 use Rattle.faults.specs.declared.types.Place.{Place}
 use Rattle.fields.specs.Parts.{Piece, split, bytes_of, after_field, fields_from, fields_at, Without}
 use Rattle.fields.proofs.Joins.{split-joined, join-split, bytes-of-fields}
@@ -19,7 +21,7 @@ use Rattle.entries.specs.Rendering.{word_text, letter_text, word_of, letter_of, 
 use Rattle.lines.specs.Faults.{Kind, kinds, operand_kinds, Counted, Placed, Good, Trouble, unknown, misplaced, miscounted, bad, Wrong, Refused}
 use Rattle.lines.specs.Steps.{line_parts, line_word, Valued, Values, MadeOf, Troubled}
 use Rattle.lines.proofs.Solid.{Solid, solid-word, solid-values, solid-short, all_without, joined-without}
-use Rattle.lines.proofs.Firsts.{some-eq, one_word, is-here, is-counted}
+use Rattle.lines.proofs.Firsts.{one_word, is-here, is-counted}
 
 solid-fields : (e : Entry) (fs : List (List ℕ)) → Fits e → Values e fs → AllByRecursion Solid (word_text (word_of e) ∷ fs)
 solid-fields e fs u (inl h) = (solid-word (word_of e), rw h (solid-values e u))
@@ -72,9 +74,9 @@ EachGood (k ∷ ks) [] = Unit {0}
 EachGood (k ∷ ks) (f ∷ fs) = Good k f × EachGood ks fs
 
 good-at : (ks : List Kind) (fs : List (List ℕ)) (j : ℕ) (k : Kind) (f : List ℕ) → EachGood ks fs → slice_get ks j ≡ Some k → slice_get fs j ≡ Some f → Good k f
-good-at [] fs j k f a p q = let z : ◌≡◌ {A = ℕ} 0 1 = cc in absurd (omega arith)
-good-at (l ∷ ks) [] j k f a p q = let z : ◌≡◌ {A = ℕ} 0 1 = cc in absurd (omega arith)
-good-at (l ∷ ks) (g ∷ fs) zero k f (a, r) p q = let P : Kind → Type 0 = λ x. Good x f in let Q : List ℕ → Type 0 = λ x. Good l x in subst P (some-eq l k p) (subst Q (some-eq g f q) a)
+good-at [] fs j k f a p q = absurd cc
+good-at (l ∷ ks) [] j k f a p q = absurd cc
+good-at (l ∷ ks) (g ∷ fs) zero k f (a, r) p q = let P : Kind → Type 0 = λ x. Good x f in let Q : List ℕ → Type 0 = λ x. Good l x in subst P (same_Some l k p) (subst Q (same_Some g f q) a)
 good-at (l ∷ ks) (g ∷ fs) (suc j) k f (a, r) p q = good-at ks fs j k f r p q
 
 operands-good : (k : Call ℕ ℤ) → CallFits k → EachGood (operand_kinds (letter_of k)) (operands k)
@@ -114,9 +116,7 @@ values-counted (entry.Call k) fs (inl h) = let n = ap length h in let m = operan
 values-counted (entry.Call k) fs (inr h) = absurd h
 
 nth-bytes : (ps : List Piece) (k : ℕ) (f : Piece) → slice_get ps k ≡ Some f → slice_get (bytes_of ps) k ≡ Some f.1
-nth-bytes [] k f e = let z : ◌≡◌ {A = ℕ} 0 1 = cc in absurd (omega arith)
-nth-bytes (p ∷ ps) zero f e = ap (λ (x : Piece). Some x.1) (some-eq p f e)
-nth-bytes (p ∷ ps) (suc k) f e = nth-bytes ps k f e
+nth-bytes ps k f e = slice_get-map (λ (p : Piece). p.1) ps k ∙ ap (option_map (λ (p : Piece). p.1)) e
 
 length_fields : (p : Place) (fs : List (List ℕ)) → length (fields_from p fs) ≡ length fs
 length_fields p [] = refl

@@ -1,10 +1,9 @@
 -- What the rules' proof needs of lists, tests and options.
-use Rattle.std.proofs.Common.{◌≡◌, ℕ, zero, suc, Bool, true, false, ◌||◌, eqb, ◌⊎◌, List, [], ◌∷◌, ◌++◌, map, set, Some, None, Option, sym, refl, ap, ◌∙◌, subst, inl, inr, ⊎_elim}
-use Rattle.std.specs.List.{slice_get, AllByRecursion}
+use Rattle.std.proofs.Common.{◌≡◌, ℕ, zero, suc, Bool, true, false, eqb, ◌⊎◌, List, [], ◌∷◌, ◌++◌, map, set, Some, None, Option, sym, refl, ap, ◌∙◌, subst, inl, inr, ⊎_elim}
+use Rattle.std.specs.List.{slice_get, AllByRecursion, list_any}
 use Rattle.std.specs.Option.{option_map}
 use Rattle.std.proofs.lemmas.Bool.{cases_eq, or_parts, eqb-false, ne_eqb}
 use Rattle.std.proofs.lemmas.Option.{slice_get-map}
-use Rattle.rules.specs.Logs.{any}
 
 -- a property of what a test or an option decides
 pub by-test : (b : Bool) (P : Bool → Type 0) → (b ≡ true → P true) → (b ≡ false → P false) → P b
@@ -34,14 +33,10 @@ module _ {X : Type 0} where
   nth-set-other (z ∷ xs) (suc i) zero x ne = refl
   nth-set-other (z ∷ xs) (suc i) (suc j) x ne = nth-set-other xs i j x (λ e. ne (ap suc e))
 
-  pub any_append : (p : X → Bool) (xs ys : List X) → any p (xs ++ ys) ≡ (any p xs || any p ys)
-  any_append p [] ys = refl
-  any_append p (x ∷ xs) ys = by-test (p x) (λ b. (b || any p (xs ++ ys)) ≡ ((b || any p xs) || any p ys)) (λ _. refl) (λ _. any_append p xs ys)
-
   -- no element passes
-  pub any_none : (p : X → Bool) (xs : List X) → any p xs ≡ false → AllByRecursion (λ x. p x ≡ false) xs
+  pub any_none : (p : X → Bool) (xs : List X) → list_any p xs ≡ false → AllByRecursion (λ x. p x ≡ false) xs
   any_none p [] e = tt
-  any_none p (x ∷ xs) e = let h = or_parts (p x) (any p xs) e in (h.0, any_none p xs h.1)
+  any_none p (x ∷ xs) e = let h = or_parts (p x) (list_any p xs) e in (h.0, any_none p xs h.1)
 
   pub all-map-get : {Y : Type 0} (f : X → Y) (xs : List X) (k : ℕ) (y : Y) → slice_get (map f xs) k ≡ Some y → (x : X) × (slice_get xs k ≡ Some x) × (y ≡ f x)
   all-map-get f [] k y e = cc

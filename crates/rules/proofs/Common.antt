@@ -7,7 +7,7 @@ use Prim.Native.Nat.{ℕ, ◌+◌, ◌-◌, ◌≤◌, ◌<◌}
 use native.Mathlib.Omega.{arith}
 use lib.Dec.{eqb}
 use lib.ListN.{length, set, take, drop, take-append-drop}
-use Rattle.std.specs.List.{slice_get, filter, AllByRecursion}
+use Rattle.std.specs.List.{slice_get, filter, AllByRecursion, list_any, list_all}
 use Rattle.std.proofs.lemmas.Bool.{eqb-true, cond-false, or_cases, or_parts, and_parts, cases_lt}
 use Rattle.std.proofs.lemmas.List.{take_all, drop-drop}
 use Rattle.std.proofs.ByRecursion.{All-drop}
@@ -16,7 +16,6 @@ use Rattle.parts.specs.declared.types.Cause.{Cause}
 use Rattle.parts.specs.declared.types.Cause.TheVariants.{Conflict, Changed}
 use Rattle.rules.specs.declared.types.State.{State}
 use Rattle.rules.specs.declared.types.State.TheVariants.{Idle, Hardware, Software, Aborted, WritingBack}
-use Rattle.rules.specs.Logs.{all, any}
 use Rattle.rules.specs.Laws.{Agrees}
 use Rattle.rules.specs.Kit.{Kit, Lawful}
 use Rattle.rules.specs.Heads.{is_hardware, is_software, is_aborted}
@@ -50,9 +49,9 @@ running-not-aborted WritingBack e = refl
 
 module _ {W : Type 0} (kit : Kit W) where
   -- a head that loads leave in hardware has no cell of their lines in its write log
-  pub survives : (cs : List ℕ) (it : Seat W) → is_hardware it.head.state ≡ true → is_hardware (loaded kit cs it).head.state ≡ true → any (λ c. meets kit c it.writes) cs ≡ false
+  pub survives : (cs : List ℕ) (it : Seat W) → is_hardware it.head.state ≡ true → is_hardware (loaded kit cs it).head.state ≡ true → list_any (λ c. meets kit c it.writes) cs ≡ false
   survives cs it hardware still =
-      by-test (any (λ c. meets kit c it.writes) cs)
+      by-test (list_any (λ c. meets kit c it.writes) cs)
       (λ b. is_hardware (cond (is_hardware it.head.state && b) (abort_seat Conflict it) it).head.state ≡ true → b ≡ false)
       (λ _ e. wrong (subst (λ t. is_hardware (cond (t && true) (abort_seat Conflict it) it).head.state ≡ true) hardware e)) (λ _ e. refl) still
 
@@ -78,8 +77,8 @@ module _ {W : Type 0} (kit : Kit W) (law : Lawful kit) (start : List W) (b : Ben
       (λ (f : is_current kit b h ≡ true).
       let both = and_parts (eqb me.head.snapshot.sequence m.sequence) (eqb me.head.snapshot.commits m.commits) f in
       ((inv.heads h me at).software software).valid (eqb-true me.head.snapshot.sequence m.sequence both.0) (eqb-true me.head.snapshot.commits m.commits both.1))
-      (λ (c : all (holds kit b h) me.reads ≡ true). check-agrees kit law b h me.reads c)
-      (or_cases (is_current kit b h) (all (holds kit b h) me.reads) e)
+      (λ (c : list_all (holds kit b h) me.reads ≡ true). check-agrees kit law b h me.reads c)
+      (or_cases (is_current kit b h) (list_all (holds kit b h) me.reads) e)
 
   -- a software head aborts only after a close with writes of another head
   pub charged : (software : is_software me.head.state ≡ true) → is_odd m.sequence ≡ false → is_valid kit b h ≡ false
@@ -101,7 +100,7 @@ module _ {W : Type 0} (kit : Kit W) (law : Lawful kit) (start : List W) (b : Ben
       sym (after-quiet h (drop p l.closes) (cells_after (take p l.closes) start) others none) ∙ sym (after-append (take p l.closes) (drop p l.closes) start)
       ∙ ap (λ cs. cells_after cs start) (take-append-drop p l.closes) ∙ sym (inv.calm even).settled in
       let valid : Agrees m.cells me.reads = subst (λ xs. Agrees xs me.reads) now s.valid-then in
-      wrong (sym (or_parts (is_current kit b h) (all (holds kit b h) me.reads) unsound).1 ∙ agrees-check kit law b h me.reads valid))
+      wrong (sym (or_parts (is_current kit b h) (list_all (holds kit b h) me.reads) unsound).1 ∙ agrees-check kit law b h me.reads valid))
       (cases_lt 0 (length (filter (is_other h) (drop p l.closes)))) in
       let more = count-charge l.closes h since p s.since s.within one in
       omega (arith, s.budget)

@@ -1,16 +1,17 @@
 -- Laws of logs: what a write or a read leaves in one, and what putting one into the cells does.
+use Rattle.std.proofs.lemmas.List.Folds.{list_any-append}
 use Rattle.std.proofs.Common.{◌≡◌, ℕ, suc, ◌+◌, ◌≤◌, true, false, cond, not, ◌&&◌, ◌||◌, eqb, leb, List, [], ◌∷◌, ◌++◌, length, set, Some, None, Option, sym, refl, ap, ◌∙◌, subst, ⊎_elim, arith}
-use Rattle.std.specs.List.{slice_get, AllByRecursion}
+use Rattle.std.specs.List.{slice_get, AllByRecursion, list_all}
 use Rattle.std.proofs.lemmas.Bool.{eqb-true, eqb-false, or_parts, or_cases, and_parts, and_from, leb-false}
 use Rattle.std.proofs.lemmas.List.{set-set, set_comm, length-append}
 use Rattle.std.proofs.ByRecursion.{All-append}
 use Rattle.rules.specs.declared.types.Slot.{Slot}
-use Rattle.rules.specs.Logs.{slot, all, is_empty, names, word_for, put, noted, is_full, put_in}
+use Rattle.rules.specs.Logs.{slot, is_empty, names, word_for, put, noted, is_full, put_in}
 use Rattle.rules.specs.Kit.{Kit, Lawful}
 use Rattle.rules.specs.Bench.{Bench, holds, holds_same}
 use Rattle.rules.specs.Laws.{Agrees}
 use Rattle.rules.proofs.Seats.{meets}
-use Rattle.rules.proofs.Basics.{eqb-flip, by-test, by-option, wrong, nth-set-other, any_append, any_none, all-append-left, all-append-right, all_both}
+use Rattle.rules.proofs.Basics.{eqb-flip, by-test, by-option, wrong, nth-set-other, any_none, all-append-left, all-append-right, all_both}
 
 -- no two slots name one cell
 abbrev pub Distinct : {W : Type 0} → List (Slot W) → Type 0
@@ -52,7 +53,7 @@ module _ {W : Type 0} where
 
   pub names-push : (d c : ℕ) (w : W) (log : List (Slot W)) → names d (log ++ (slot c w ∷ [])) ≡ (names d log || eqb d c)
   names-push d c w log =
-      any_append (λ s. eqb d s.cell) log (slot c w ∷ []) ∙ ap (λ b. names d log || b) (by-test (eqb d c) (λ b. (b || false) ≡ b) (λ _. refl) (λ _. refl))
+      list_any-append (λ s. eqb d s.cell) log (slot c w ∷ []) ∙ ap (λ b. names d log || b) (by-test (eqb d c) (λ b. (b || false) ≡ b) (λ _. refl) (λ _. refl))
 
   pub distinct-put : (c : ℕ) (w : W) (log : List (Slot W)) → Distinct log → Distinct (put c w log)
   distinct-put c w [] d = (refl, tt)
@@ -135,7 +136,7 @@ module _ {W : Type 0} (kit : Kit W) where
   pub meets-noted : (x c : ℕ) (w : W) (log : List (Slot W)) → meets kit x log ≡ false → eqb (kit.line x) (kit.line c) ≡ false → meets kit x (noted c w log) ≡ false
   meets-noted x c w log h e =
       by-test (names c log) (λ b. meets kit x (cond b log (log ++ (slot c w ∷ []))) ≡ false) (λ _. h)
-      (λ _. any_append (λ s. eqb (kit.line x) (kit.line s.cell)) log (slot c w ∷ []) ∙ rw (h, e))
+      (λ _. list_any-append (λ s. eqb (kit.line x) (kit.line s.cell)) log (slot c w ∷ []) ∙ rw (h, e))
 
   -- a write to a line that a log does not touch leaves what the log agrees with
   pub agrees-set : (c : ℕ) (w : W) (log : List (Slot W)) (xs : List W) → meets kit c log ≡ false → Agrees xs log → Agrees (set xs c w) log
@@ -150,18 +151,18 @@ module _ {W : Type 0} (kit : Kit W) where
 
   -- validation decides agreement
   module _ (law : Lawful kit) (b : Bench W) (k : ℕ) where
-    pub check-agrees : (log : List (Slot W)) → all (holds kit b k) log ≡ true → Agrees b.cells log
+    pub check-agrees : (log : List (Slot W)) → list_all (holds kit b k) log ≡ true → Agrees b.cells log
     check-agrees [] e = tt
     check-agrees (s ∷ log) e =
-        let parts = and_parts (holds kit b k s) (all (holds kit b k) log) e in
+        let parts = and_parts (holds kit b k s) (list_all (holds kit b k) log) e in
         let at : slice_get b.cells s.cell ≡ Some s.word =
         by-option (slice_get b.cells s.cell) (λ o. holds_same kit.same s.word o ≡ true → o ≡ Some s.word)
         (λ _ h. wrong h) (λ w _ h. ap Some ((law.exact w s.word).0 h)) parts.0 in
         (at, check-agrees log parts.1)
 
-    pub agrees-check : (log : List (Slot W)) → Agrees b.cells log → all (holds kit b k) log ≡ true
+    pub agrees-check : (log : List (Slot W)) → Agrees b.cells log → list_all (holds kit b k) log ≡ true
     agrees-check [] h = refl
     agrees-check (s ∷ log) h =
-        and_from (holds kit b k s) (all (holds kit b k) log)
+        and_from (holds kit b k s) (list_all (holds kit b k) log)
         (ap (λ (o : Option W). holds_same kit.same s.word o) h.0 ∙ (law.exact s.word s.word).1 refl)
         (agrees-check log h.1)

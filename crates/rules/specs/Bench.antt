@@ -1,6 +1,6 @@
 -- A rig on the bench: its table and the three lists, what its heads do to one another, and validation.
 use Rattle.std.specs.Prelude.{ℕ, ◌+◌, ◌%◌, Bool, false, cond, not, ◌&&◌, ◌||◌, List, [], ◌∷◌, length, Some, None, Option, ◌==◌, nat_lt, slice_index_or, slice_set}
-use Rattle.std.specs.List.{slice_get}
+use Rattle.std.specs.List.{slice_get, list_any, list_all}
 use Rattle.parts.specs.declared.types.Cause.TheVariants.{Conflict, Lock}
 use Rattle.rules.specs.declared.types.Head.{Head}
 use Rattle.rules.specs.declared.types.Slot.{Slot}
@@ -8,7 +8,7 @@ use Rattle.rules.specs.declared.types.Snapshot.{Snapshot}
 use Rattle.rules.specs.declared.types.State.{State}
 use Rattle.rules.specs.declared.types.Table.{Table}
 use Rattle.rules.specs.Kit.{Kit}
-use Rattle.rules.specs.Logs.{any, all, touches, log_of}
+use Rattle.rules.specs.Logs.{touches, log_of}
 use Rattle.rules.specs.Heads.{new_head, is_hardware, abort}
 
 pub record Bench (W : Type 0) : Type 0 where
@@ -69,7 +69,7 @@ module _ {W : Type 0} (b : Bench W) (k : ℕ) where
 module _ {W : Type 0} (kit : Kit W) where
   -- which logs of another head a load of one of these cells runs into: a write log with a cell of its line
   abbrev pub hit_by_loads : List ℕ → List (Slot W) → List (Slot W) → Bool
-  hit_by_loads cs reads writes = any (λ c. touches kit.line (kit.line c) writes) cs
+  hit_by_loads cs reads writes = list_any (λ c. touches kit.line (kit.line c) writes) cs
 
   -- and a hardware store to a cell: either log
   abbrev pub hit_by_store : ℕ → List (Slot W) → List (Slot W) → Bool
@@ -106,7 +106,7 @@ module _ {W : Type 0} (kit : Kit W) (b : Bench W) (k : ℕ) where
 
   -- validation is skipped while the snapshot is current: whether the head k goes on, and the cells that it has loaded for it
   abbrev pub is_valid : Bool
-  is_valid = is_current || all holds (read_log b k)
+  is_valid = is_current || list_all holds (read_log b k)
 
   abbrev pub checked : List ℕ
   checked = cond is_current [] (loaded_by (read_log b k))

@@ -1,15 +1,7 @@
 -- Logs. A log is a list of slots, the lowest first; the lowest slot that names a cell counts.
-use Rattle.std.specs.Prelude.{ℕ, suc, ◌+◌, ◌*◌, Bool, true, false, cond, not, ◌&&◌, ◌||◌, List, [], ◌∷◌, ◌++◌, map, length, take, drop, Some, None, Option, ◌==◌, nat_eq, nat_le, slice_set}
+use Rattle.std.specs.List.{list_any}
+use Rattle.std.specs.Prelude.{ℕ, suc, ◌+◌, ◌*◌, Bool, true, false, cond, not, ◌&&◌, List, [], ◌∷◌, ◌++◌, map, length, take, drop, Some, None, Option, ◌==◌, nat_eq, nat_le, slice_set}
 use Rattle.rules.specs.declared.types.Slot.{Slot}
-
--- whether some element passes, and whether each does
-abbrev pub any : {X : Type 0} → (X → Bool) → List X → Bool
-any p [] = false
-any p (x ∷ xs) = p x || any p xs
-
-abbrev pub all : {X : Type 0} → (X → Bool) → List X → Bool
-all p [] = true
-all p (x ∷ xs) = p x && all p xs
 
 abbrev pub is_empty : {X : Type 0} → List X → Bool
 is_empty [] = true
@@ -20,7 +12,7 @@ slot c w = record { cell = c; word = w }
 
 -- whether the log has a slot for the cell
 abbrev pub names : {W : Type 0} → ℕ → List (Slot W) → Bool
-names c log = any (λ s. nat_eq c s.cell) log
+names c log = list_any (λ s. nat_eq c s.cell) log
 
 -- the log's word for the cell
 abbrev pub word_for : {W : Type 0} → ℕ → List (Slot W) → Option W
@@ -42,7 +34,7 @@ is_full c log = not (names c log) && nat_le 32 (length log)
 
 -- whether a cell of the log is on the line
 abbrev pub touches : {W : Type 0} → (ℕ → ℕ) → ℕ → List (Slot W) → Bool
-touches line l log = any (λ s. nat_eq l (line s.cell)) log
+touches line l log = list_any (λ s. nat_eq l (line s.cell)) log
 
 -- the line of each slot's cell
 abbrev pub lines_of : {W : Type 0} → (ℕ → ℕ) → List (Slot W) → List ℕ
@@ -51,7 +43,7 @@ lines_of line log = map (λ s. line s.cell) log
 -- how many different numbers there are
 abbrev pub distinct : List ℕ → ℕ
 distinct [] = 0
-distinct (x ∷ xs) = cond (any (nat_eq x) xs) (distinct xs) (suc (distinct xs))
+distinct (x ∷ xs) = cond (list_any (nat_eq x) xs) (distinct xs) (suc (distinct xs))
 
 -- the cells with the log's words put in, in order; a cell that is not there gets none
 abbrev pub put_in : {W : Type 0} → List (Slot W) → List W → List W
