@@ -140,7 +140,7 @@ come-last lines left s h come e =
 pub text-ends : (text : List ℕ) (es : List Entry) (r : Result (Unit {0}) ReadError) → (0 < length text) × (length text ≤ 65536) → Ends (lines_of_text text) es r → Read text es r
 text-ends text es (Ok _) (some, short) h = lined es None some short h
 text-ends text es (Err (error.Fault f)) (some, short) h = lined es (Some f) some short h
-text-ends text es (Err error.NoMemory) (some, short) h = h
+text-ends text es (Err (error.NoMemory e)) (some, short) h = h
 
 pub text-unsized : (text : List ℕ) (f : RigFault) (h : Held) → h ≡ nothing → Sized text (Err f) → Read text (listed h) (Err (error.Fault f))
 text-unsized text f h e s =

@@ -144,4 +144,4 @@ few-held text es end h e = let P : Result (Unit {0}) ReadError → Type 0 = λ x
 pub told_back : (text : List ℕ) (es : List Entry) (end : Result (Unit {0}) ReadError) (lines out : List ℕ) → Read text es end → lines ≡ scenario_text es → EndWritten es end lines out → ReadBack text out
 told_back text es (Ok _) lines out h e w = (es, (None, h, w ∙ ap (λ l. l ++ (ending es None ++ (10 ∷ []))) e))
 told_back text es (Err (error.Fault f)) lines out h e w = (es, (Some f, h, w ∙ ap (λ l. l ++ (ending es (Some f) ++ (10 ∷ []))) e))
-told_back text es (Err error.NoMemory) lines out h e w = absurd w
+told_back text es (Err (error.NoMemory m)) lines out h e w = absurd w

@@ -27,7 +27,7 @@ entries_of s = in_order s.rig (vec_items s.settings) (vec_items s.calls)
 abbrev pub Read : List ℕ → List Entry → Result (Unit {0}) ReadError → Type 0
 Read text es (Ok _) = TextSays text es None
 Read text es (Err (error.Fault f)) = TextSays text es (Some f)
-Read text es (Err error.NoMemory) = LinesRead start (take (length es) (lines_of_text text)) es None
+Read text es (Err (error.NoMemory e)) = LinesRead start (take (length es) (lines_of_text text)) es None
 
 -- the text has a reading, and this is how it ends: after so many lines, or at this fault
 abbrev pub Checked : List ℕ → Result ℕ RigFault → Type 0

@@ -60,7 +60,7 @@ Sized text (Err f) = ((65536 < length text) × (f ≡ in_rig.Line in_line.TooLon
 abbrev pub Ends : List Piece → List Entry → Result (Unit {0}) ReadError → Type 0
 Ends lines es (Ok _) = LinesRead start lines es None
 Ends lines es (Err (error.Fault f)) = LinesRead start lines es (Some f)
-Ends lines es (Err error.NoMemory) = LinesRead start (take (length es) lines) es None
+Ends lines es (Err (error.NoMemory e)) = LinesRead start (take (length es) lines) es None
 
 -- the lines have a reading, which ends after so many of them or at this fault
 abbrev pub LinesCounted : List Piece → Result ℕ RigFault → Type 0
@@ -71,4 +71,4 @@ LinesCounted lines (Err f) = (es : List Entry) × LinesRead start lines es (Some
 abbrev pub EndWritten : List Entry → Result (Unit {0}) ReadError → List ℕ → List ℕ → Type 0
 EndWritten es (Ok _) before after = after ≡ before ++ (ending es None ++ (10 ∷ []))
 EndWritten es (Err (error.Fault f)) before after = after ≡ before ++ (ending es (Some f) ++ (10 ∷ []))
-EndWritten es (Err error.NoMemory) before after = ⊥
+EndWritten es (Err (error.NoMemory e)) before after = ⊥

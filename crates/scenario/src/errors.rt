@@ -15,9 +15,9 @@ impl From<RigFault> for ReadError {
 }
 
 impl From<AllocError> for ReadError {
-    ghost from_gives = { λ _ r. r ≡ error.NoMemory };
+    ghost from_gives = { λ e r. r ≡ error.NoMemory e };
 
-    fn from(_: AllocError) -> ReadError {
-        ReadError::NoMemory
+    fn from(e: AllocError) -> ReadError {
+        ReadError::NoMemory(e)
     }
 }

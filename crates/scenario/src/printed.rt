@@ -36,7 +36,7 @@ impl Scenario {
                 let report = fault.report();
                 writeln!(out, "{report}")
             }
-            Err(ReadError::NoMemory) => Err(AllocError),
+            Err(ReadError::NoMemory(e)) => Err(e),
         }
     }
 }

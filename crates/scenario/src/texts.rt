@@ -1,29 +1,23 @@
 // Reading a whole text.
 ghost use Rattle.std.specs.Prelude.{◌≡◌, ℕ, ◌<◌, ◌≤◌, List, length, Decides, MatchResult};
 ghost use Rattle.lines.specs.Faults.{LineRead};
-ghost use Rattle.scenario.specs.Texts.{Allowed, RigRead, TextOnce, lines_of_text};
+ghost use Rattle.entries.specs.declared.types.Entry.TheVariants as entries;
+ghost use Rattle.scenario.specs.Texts.{Allowed, RigRead, TextOnce, start, lines_of_text};
 ghost use Rattle.scenario.specs.Holdings.{entries_of, Read, Checked};
 ghost use Rattle.scenario.specs.Steps.{Sized, held, put, nothing, Ends, LinesCounted};
 
 use crate::types::{ReadError, Reading, Scenario};
-use entries::Entry;
+use entries::{Entry, RigLine};
 use faults::{LineFault, Place, RigFault};
 use fields::Reader;
 use lines::{LineEntry, Stage, next_entry};
 use std::alloc::{AllocError, Global};
 
-// Whether the rig allows what a line says.
-fn allowed(stage: Stage, said: Entry) -> bool
-    ensures { Decides result (Allowed stage said) }
+// Whether a rig may have so many heads and cells.
+fn allowed(rig: RigLine) -> bool
+    ensures { Decides result (Allowed start (entries.Rig rig)) }
 {
-    match said {
-        Entry::Rig(rig) => rig.heads >= 1 && rig.heads <= 8 && rig.cells >= 1 && rig.cells <= 1024,
-        Entry::Set(setting) => match stage {
-            Stage::Settings(cells) => setting.cell < cells,
-            _ => false,
-        },
-        Entry::Call(_) => true,
-    }
+    (1..=8).contains(&rig.heads) && (1..=1024).contains(&rig.cells)
 }
 
 // What a line is read as, with what the rig refuses of it.
@@ -31,13 +25,12 @@ fn rig_entry(stage: Stage, line: LineEntry) -> Result<Entry, RigFault>
     ensures { (bytes : List ℕ) → LineRead stage (line.place, bytes) line.said → RigRead stage (line.place, bytes) result }
 {
     let said = line.said?;
-    if allowed(stage, said) {
-        return Ok(said);
-    }
     match said {
-        Entry::Rig(_) => Err(RigFault::BadRig(line.place)),
-        Entry::Set(_) => Err(RigFault::NoSuchCell(line.place)),
-        Entry::Call(_) => Ok(said),
+        Entry::Rig(rig) if !allowed(rig) => Err(RigFault::BadRig(line.place)),
+        Entry::Set(setting) if !matches!(stage, Stage::Settings(cells) if setting.cell < cells) => {
+            Err(RigFault::NoSuchCell(line.place))
+        }
+        _ => Ok(said),
     }
 }
 
@@ -51,7 +44,7 @@ fn sized(text: &[u8]) -> Result<(), RigFault>
     if text.len() > LONGEST {
         return Err(RigFault::Line(LineFault::TooLong));
     }
-    if text.len() == 0 {
+    if text.is_empty() {
         let start = Place { line: 1, byte: 0 };
         return Err(RigFault::Line(LineFault::Misplaced(start)));
     }

@@ -1,12 +1,13 @@
 // A scenario as it is held.
 use entries::{HeadCall, RigLine, Setting};
 use faults::RigFault;
+use std::alloc::AllocError;
 
 // Why a scenario was not read to its end.
 #[derive(Clone, Copy)]
 pub enum ReadError {
     Fault(RigFault),
-    NoMemory,
+    NoMemory(AllocError),
 }
 
 // What the lines of a scenario say: the rig, then settings, then calls.
