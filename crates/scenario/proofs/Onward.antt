@@ -17,11 +17,12 @@ use Rattle.entries.specs.Rendering.{word_of}
 use Rattle.lines.specs.Faults.{Placed, stage_after}
 use Rattle.faults.specs.declared.types.RigFault.{RigFault}
 use Rattle.faults.specs.declared.types.RigFault.TheVariants as in_rig
+use Rattle.scenario.specs.declared.texts.Entries.{Entries}
 use Rattle.scenario.specs.declared.types.ReadError.{ReadError}
 use Rattle.scenario.specs.declared.types.ReadError.TheVariants as error
 use Rattle.scenario.specs.Texts.{RigRead, LinesRead, start, lines_of_text, TextSays, long, empty, lined}
 use Rattle.scenario.specs.Holdings.{rig_line, in_order, Read, Checked}
-use Rattle.scenario.specs.Steps.{Held, nothing, listed, put, Orderly, stage_at, Sized, Ends, LinesCounted}
+use Rattle.scenario.specs.Steps.{Held, nothing, listed, put, Orderly, stage_at, to_come, NextSaid, Sized, Ends, LinesCounted}
 
 -- an entry that may stand at a stage goes to the end of what is held
 
@@ -82,56 +83,60 @@ as_many s [] (d ∷ es) h = absurd h
 as_many s (k ∷ done) [] h = absurd h
 as_many s (k ∷ done) (d ∷ es) (h, t) = ap suc (as_many (stage_after s d) done es t)
 
--- what is known before a turn of the loop: the lines so far say what is held, and these are left
-pub record Come (lines left : List Piece) (s : Stage) (h : Held) : Type 0 where
+-- what is known before a turn of the loop: the lines so far say what is held, and these are still to come
+pub record Come (lines : List Piece) (at : Entries) (h : Held) : Type 0 where
   pub done : List Piece
-  pub are : lines ≡ done ++ left
+  pub are : lines ≡ done ++ to_come at
   pub read : LinesRead start done (listed h) None
-  pub stage_is : s ≡ stage_at start (listed h)
-  pub orderly : Orderly s h
+  pub stage_is : at.stage ≡ stage_at start (listed h)
+  pub orderly : Orderly at.stage h
 
-pub come-first : (lines : List Piece) (h : Held) → h ≡ nothing → Come lines lines start h
-come-first lines h e =
-    let P : Held → Type 0 = λ x. Come lines lines start x in
-    subst P (sym e) (record { done = []; are = refl; read = tt; stage_is = refl; orderly = refl })
+pub come-first : (lines : List Piece) (at : Entries) (h : Held) → to_come at ≡ lines → at.stage ≡ start → h ≡ nothing → Come lines at h
+come-first lines at h all first none =
+    let O : Stage → Type 0 = λ x. Orderly x h in
+    record {
+      done = [];
+      are = sym all;
+      read = subst (λ x. LinesRead start [] (listed x) None) (sym none) tt;
+      stage_is = first ∙ sym (ap (λ x. stage_at start (listed x)) none);
+      orderly = subst O (sym first) none;
+    }
 
--- one line was left, and is read as this
-module _ (lines before left : List Piece) (s : Stage) (h : Held) (l : Piece) (come : Come lines before s h) (next : before ≡ l ∷ left) where
-  abbrev Here : Result Entry RigFault → Type 0
-  Here r = RigRead (stage_at start (listed h)) l r
+-- one more line is read
+module _ (lines : List Piece) (at after : Entries) (h : Held) (come : Come lines at h) where
+  -- as it is read after what is held
+  here : (l : Piece) (r : Result Entry RigFault) → RigRead at.stage l r → RigRead (stage_at start (listed h)) l r
+  here l r = let P : Stage → Type 0 = λ x. RigRead x l r in subst P come.stage_is
 
-  here : (r : Result Entry RigFault) → RigRead s l r → Here r
-  here r = let P : Stage → Type 0 = λ x. RigRead x l r in subst P come.stage_is
-
-  pub come-next : (e : Entry) (g : Held) (t : Stage) → RigRead s l (Ok e) → g ≡ put h e → t ≡ stage_after s e → Come lines left t g
-  come-next e g t r p q =
-      let last = put_last s h e come.orderly r.0.1 in
+  pub come-next : (e : Entry) (g : Held) → NextSaid at (Some (Ok e)) after → g ≡ put h e → Come lines after g
+  come-next e g (l, next, r, moved) p =
+      let last = put_last at.stage h e come.orderly r.0.1 in
       let same : listed g ≡ listed h ++ (e ∷ []) = ap listed p ∙ last.0 in
       let P : List Entry → Type 0 = λ x. LinesRead start (come.done ++ (l ∷ [])) x None in
-      let O : Held → Type 0 = λ x. Orderly (stage_after s e) x in
+      let O : Held → Type 0 = λ x. Orderly (stage_after at.stage e) x in
       let R : Stage → Type 0 = λ x. Orderly x g in
       record {
         done = come.done ++ (l ∷ []);
-        are = come.are ∙ ap (λ x. come.done ++ x) next ∙ sym (append_assoc come.done (l ∷ []) left);
-        read = subst P (sym same) (read_more start come.done (listed h) l e come.read (here (Ok e) r));
-        stage_is = q ∙ ap (λ x. stage_after x e) come.stage_is ∙ sym (stage-more start (listed h) e) ∙ ap (stage_at start) (sym same);
-        orderly = subst R (sym q) (subst O (sym p) last.1);
+        are = come.are ∙ ap (λ x. come.done ++ x) next ∙ sym (append_assoc come.done (l ∷ []) (to_come after));
+        read = subst P (sym same) (read_more start come.done (listed h) l e come.read (here l (Ok e) r));
+        stage_is = moved ∙ ap (λ x. stage_after x e) come.stage_is ∙ sym (stage-more start (listed h) e) ∙ ap (stage_at start) (sym same);
+        orderly = subst R (sym moved) (subst O (sym p) last.1);
       }
 
-  pub come-fault : (f : RigFault) → RigRead s l (Err f) → LinesRead start lines (listed h) (Some f)
-  come-fault f r =
+  pub come-fault : (f : RigFault) → NextSaid at (Some (Err f)) after → LinesRead start lines (listed h) (Some f)
+  come-fault f (l, next, r, moved) =
       let P : List Piece → Type 0 = λ x. LinesRead start x (listed h) (Some f) in
-      subst P (sym (come.are ∙ ap (λ x. come.done ++ x) next)) (read-fault start come.done (listed h) l left f come.read (here (Err f) r))
+      subst P (sym (come.are ∙ ap (λ x. come.done ++ x) next)) (read-fault start come.done (listed h) l (to_come after) f come.read (here l (Err f) r))
 
-pub come-short : (lines left : List Piece) (s : Stage) (h g : Held) → Come lines left s h → g ≡ h → LinesRead start (take (length (listed g)) lines) (listed g) None
-come-short lines left s h g come e =
+pub come-short : (lines : List Piece) (at : Entries) (h g : Held) → Come lines at h → g ≡ h → LinesRead start (take (length (listed g)) lines) (listed g) None
+come-short lines at h g come e =
     let P : Held → Type 0 = λ x. LinesRead start (take (length (listed x)) lines) (listed x) None in
     let Q : List Piece → Type 0 = λ x. LinesRead start x (listed h) None in
-    let front : take (length (listed h)) lines ≡ come.done = ap (take (length (listed h))) come.are ∙ take_at come.done left (length (listed h)) (as_many start come.done (listed h) come.read) in
+    let front : take (length (listed h)) lines ≡ come.done = ap (take (length (listed h))) come.are ∙ take_at come.done (to_come at) (length (listed h)) (as_many start come.done (listed h) come.read) in
     subst P (sym e) (subst Q (sym front) come.read)
 
-pub come-last : (lines left : List Piece) (s : Stage) (h : Held) → Come lines left s h → left ≡ [] → LinesRead start lines (listed h) None
-come-last lines left s h come e =
+pub come-last : (lines : List Piece) (at : Entries) (h : Held) → Come lines at h → to_come at ≡ [] → LinesRead start lines (listed h) None
+come-last lines at h come e =
     let P : List Piece → Type 0 = λ x. LinesRead start x (listed h) None in
     subst P (sym (come.are ∙ ap (λ x. come.done ++ x) e ∙ append-nil come.done)) come.read
 
@@ -166,34 +171,33 @@ length-lines p (l ∷ ls) = ap suc (length-lines (after_line p l) ls)
 
 -- the same for a reading that only counts
 
-pub record Counting (lines left : List Piece) (s : Stage) (n : ℕ) : Type 0 where
+pub record Counting (lines : List Piece) (at : Entries) (n : ℕ) : Type 0 where
   pub kept : Held
-  pub come : Come lines left s kept
+  pub come : Come lines at kept
   pub is : n ≡ length (listed kept)
-  pub few : n + length left ≤ 65536
+  pub few : n + length (to_come at) ≤ 65536
 
-pub counting-first : (text : List ℕ) (left : List Piece) → length text ≤ 65536 → left ≡ lines_of_text text → Counting (lines_of_text text) left start 0
-counting-first text left short e =
-    let P : List Piece → Type 0 = λ x. Counting (lines_of_text text) x start 0 in
-    subst P (sym e) (record { kept = nothing; come = come-first (lines_of_text text) nothing refl; is = refl; few = omega (arith, length-lines text_start (lines_of text), lines-many text) })
+pub counting-first : (text : List ℕ) (at : Entries) → length text ≤ 65536 → to_come at ≡ lines_of_text text → at.stage ≡ start → Counting (lines_of_text text) at 0
+counting-first text at short all first =
+    record { kept = nothing; come = come-first (lines_of_text text) at nothing all first refl; is = refl; few = omega (arith, ap length all, length-lines text_start (lines_of text), lines-many text) }
 
-pub counting-next : (lines before left : List Piece) (s t : Stage) (n : ℕ) (l : Piece) (e : Entry) → Counting lines before s n → before ≡ l ∷ left → RigRead s l (Ok e) → t ≡ stage_after s e → Counting lines left t (n + 1)
-counting-next lines before left s t n l e c next r q =
+pub counting-next : (lines : List Piece) (at after : Entries) (n : ℕ) (e : Entry) → Counting lines at n → NextSaid at (Some (Ok e)) after → Counting lines after (n + 1)
+counting-next lines at after n e c next =
     let h = c.kept in
-    let last = put_last s h e c.come.orderly r.0.1 in
+    let last = put_last at.stage h e c.come.orderly next.2.0.1 in
     let more : length (listed (put h e)) ≡ length (listed h) + 1 = ap length last.0 ∙ length_push (listed h) e in
     record {
       kept = put h e;
-      come = come-next lines before left s h l c.come next e (put h e) t r refl q;
+      come = come-next lines at after h c.come e (put h e) next refl;
       is = omega (arith, more, c.is);
-      few = omega (arith, c.few, ap length next);
+      few = omega (arith, c.few, ap length next.1);
     }
 
-pub counting-fault : (lines before left : List Piece) (s : Stage) (n : ℕ) (l : Piece) (f : RigFault) → Counting lines before s n → before ≡ l ∷ left → RigRead s l (Err f) → LinesCounted lines (Err f)
-counting-fault lines before left s n l f c next r = (listed c.kept, come-fault lines before left s c.kept l c.come next f r)
+pub counting-fault : (lines : List Piece) (at after : Entries) (n : ℕ) (f : RigFault) → Counting lines at n → NextSaid at (Some (Err f)) after → LinesCounted lines (Err f)
+counting-fault lines at after n f c next = (listed c.kept, come-fault lines at after c.kept c.come f next)
 
-pub counting-last : (lines left : List Piece) (s : Stage) (n : ℕ) → Counting lines left s n → left ≡ [] → LinesCounted lines (Ok n)
-counting-last lines left s n c e = (listed c.kept, come-last lines left s c.kept c.come e, c.is)
+pub counting-last : (lines : List Piece) (at : Entries) (n : ℕ) → Counting lines at n → to_come at ≡ [] → LinesCounted lines (Ok n)
+counting-last lines at n c e = (listed c.kept, come-last lines at c.kept c.come e, c.is)
 
 pub text-counted : (text : List ℕ) (r : Result ℕ RigFault) → (0 < length text) × (length text ≤ 65536) → LinesCounted (lines_of_text text) r → Checked text r
 text-counted text (Ok n) (some, short) (es, h, e) = (es, lined es None some short h, e)

@@ -1,6 +1,6 @@
 -- Words for the steps of reading a scenario.
 use Rattle.std.specs.Prelude.{◌≡◌, ℕ, ◌<◌, ◌≤◌, ◌⊎◌, List, [], ◌∷◌, ◌++◌, length, take, Some, None, Ok, Err, vec_items, Option, Result}
-use Rattle.fields.specs.Parts.{Piece, text_start}
+use Rattle.fields.specs.Parts.{Piece, lines_left, text_start}
 use Rattle.entries.specs.declared.types.RigLine.{RigLine}
 use Rattle.entries.specs.declared.types.Setting.{Setting}
 use Rattle.entries.specs.declared.types.HeadCall.{HeadCall}
@@ -14,8 +14,9 @@ use Rattle.faults.specs.declared.types.RigFault.{RigFault}
 use Rattle.faults.specs.declared.types.RigFault.TheVariants as in_rig
 use Rattle.scenario.specs.declared.types.ReadError.{ReadError}
 use Rattle.scenario.specs.declared.types.ReadError.TheVariants as error
+use Rattle.scenario.specs.declared.texts.Entries.{Entries}
 use Rattle.scenario.specs.declared.types.Scenario.{Scenario}
-use Rattle.scenario.specs.Texts.{LinesRead, start}
+use Rattle.scenario.specs.Texts.{RigRead, LinesRead, start}
 use Rattle.scenario.specs.Holdings.{in_order}
 use Rattle.scenario.specs.Laws.{ending}
 
@@ -50,6 +51,20 @@ Orderly stage.Calls h = Unit {0}
 abbrev pub stage_at : Stage → List Entry → Stage
 stage_at s [] = s
 stage_at s (e ∷ es) = stage_at (stage_after s e) es
+
+-- the lines that are still to come
+abbrev pub to_come : Entries → List Piece
+to_come s = lines_left s.reader
+
+-- the stage after a line that is read as this
+abbrev pub stage_then : Stage → Result Entry RigFault → Stage
+stage_then s (Ok e) = stage_after s e
+stage_then s (Err f) = s
+
+-- the next of the lines is read, and the others are still to come; None where no line is left
+abbrev pub NextSaid : Entries → Option (Result Entry RigFault) → Entries → Type 0
+NextSaid before None after = (to_come before ≡ []) × (to_come after ≡ [])
+NextSaid before (Some r) after = (l : Piece) × (to_come before ≡ l ∷ to_come after) × RigRead before.stage l r × (after.stage ≡ stage_then before.stage r)
 
 -- a text whose lines are read: not too long, and not empty
 abbrev pub Sized : List ℕ → Result (Unit {0}) RigFault → Type 0

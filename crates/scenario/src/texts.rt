@@ -4,7 +4,9 @@ ghost use Rattle.lines.specs.Faults.{LineRead};
 ghost use Rattle.entries.specs.declared.types.Entry.TheVariants as entries;
 ghost use Rattle.scenario.specs.Texts.{Allowed, RigRead, TextOnce, start, lines_of_text};
 ghost use Rattle.scenario.specs.Holdings.{entries_of, Read, Checked};
-ghost use Rattle.scenario.specs.Steps.{Sized, held, put, nothing, Ends, LinesCounted};
+ghost use Rattle.scenario.specs.Steps.{Sized, held, put, nothing, to_come, NextSaid, Ends, LinesCounted};
+ghost use Rattle.std.specs.Iterator.{item_count};
+ghost use Rattle.fields.specs.Parts.{lines_left};
 
 use crate::types::{ReadError, Reading, Scenario};
 use entries::{Entry, RigLine};
@@ -31,6 +33,43 @@ fn rig_entry(stage: Stage, line: LineEntry) -> Result<Entry, RigFault>
             Err(RigFault::NoSuchCell(line.place))
         }
         _ => Ok(said),
+    }
+}
+
+// The lines of a text that are still to come, and the stage where they begin.
+#[derive(Drop)]
+struct Entries<'a> {
+    reader: Reader<'a>,
+    stage: Stage,
+}
+
+impl<'a> Entries<'a> {
+    // All the lines of a text.
+    fn new(text: &'a [u8]) -> Entries<'a>
+        ensures lines { lines_left result.reader ≡ lines_of_text text.now }
+        ensures stage { result.stage ≡ start }
+    {
+        Entries {
+            reader: Reader::new(text),
+            stage: Stage::Start,
+        }
+    }
+}
+
+impl Iterator for Entries<'_> {
+    type Item = Result<Entry, RigFault>;
+
+    ghost next_gives = { NextSaid };
+
+    ghost remaining = { item_count to_come };
+
+    fn next(&mut self) -> Option<Result<Entry, RigFault>> {
+        let line = next_entry(self.stage, &mut self.reader)?;
+        let said = rig_entry(self.stage, line);
+        if let Ok(said) = said {
+            self.stage = self.stage.after(said);
+        }
+        Some(said)
     }
 }
 
@@ -76,12 +115,8 @@ fn take_lines(scenario: &mut Scenario, text: &[u8]) -> Result<(), ReadError>
     requires { held scenario.old ≡ nothing }
     ensures { Ends (lines_of_text text.now) (entries_of scenario.new) result }
 {
-    let mut reader = Reader::new(text);
-    let mut stage = Stage::Start;
-    while let Some(line) = next_entry(stage, &mut reader) {
-        let said = rig_entry(stage, line)?;
-        scenario.add(said)?;
-        stage = stage.after(said);
+    for said in Entries::new(text) {
+        scenario.add(said?)?;
     }
     Ok(())
 }
@@ -114,12 +149,9 @@ fn count_lines(text: &[u8]) -> Result<usize, RigFault>
     requires { length text.now ≤ 65536 }
     ensures { LinesCounted (lines_of_text text.now) result }
 {
-    let mut reader = Reader::new(text);
-    let mut stage = Stage::Start;
-    let mut count: usize = 0;
-    while let Some(line) = next_entry(stage, &mut reader) {
-        let said = rig_entry(stage, line)?;
-        stage = stage.after(said);
+    let mut count = 0;
+    for said in Entries::new(text) {
+        said?;
         count += 1;
     }
     Ok(count)

@@ -1,19 +1,21 @@
+use Rattle.std.proofs.Common.{ap, ◌∙◌}
 use Rattle.std.proofs.lemmas.Result.{err_from_is_err_and}
-use Rattle.fields.specs.Parts.{lines_left}
-use Rattle.scenario.specs.Texts.{lines_of_text}
+use Rattle.scenario.specs.declared.texts.Entries.{Entries}
+use Rattle.scenario.specs.Steps.{to_come}
 use Rattle.scenario.proofs.Onward.{counting-first, counting-next, counting-fault}
 use Rattle.scenario.proofs.texts.count_lines.Goals as goal
 
-pub loop-line-init : goal.loop-line-init
-loop-line-init c = counting-first c.args.text.now _ c.requires c.new-reader.ensures.lines
+pub loop-said-init : goal.loop-said-init
+loop-said-init c = record { can = tt; ends = tt; counted = counting-first _ _ c.requires (ap to_come c.into_iter-said-iterator.ensures.into_iter_gives ∙ c.new-said-items.ensures.lines) (ap (λ (x : Entries). x.stage) c.into_iter-said-iterator.ensures.into_iter_gives ∙ c.new-said-items.ensures.stage) }
 
 pub returns-in_err-said : goal.returns-in_err-said
 returns-in_err-said c =
     let p = err_from_is_err_and c.from_residual.result c.from_residual.ensures.1 in
-    let next = c.in-Some.ensures.next in
-    rw (p.1, p.2) (counting-fault (lines_of_text c.args.text.now) (lines_left c.loop-line.reader) _ c.loop-line.stage c.loop-line.count _ _ c.loop-line.invariant next.1 (c.in_err-said.ensures next.0 next.2))
+    rw (p.1, p.2) (counting-fault _ _ c.next.new.self _ _ c.loop-said.invariant.counted (rw c.in_err-said.was at c.in-Some.ensures.steps))
 
-pub loop-line-preserved : goal.loop-line-preserved
-loop-line-preserved c =
-    let next = c.in-Some.ensures.next in
-    counting-next (lines_of_text c.args.text.now) (lines_left c.loop-line.reader) (lines_left c.next_entry.new.reader) c.loop-line.stage c.after-stage.result c.loop-line.count _ _ c.loop-line.invariant next.1 (c.in_ok-said.ensures next.0 next.2) c.after-stage.ensures
+pub loop-said-preserved : goal.loop-said-preserved
+loop-said-preserved c = record {
+  can = tt;
+  ends = tt;
+  counted = counting-next _ _ c.next.new.self _ _ c.loop-said.invariant.counted (rw c.in_ok-said.was at c.in-Some.ensures.steps);
+}
