@@ -1,35 +1,48 @@
 -- Writing the text of a scenario, line after line.
-use Rattle.std.proofs.Common.{◌≡◌, ℕ, ◌+◌, ◌<◌, ◌≤◌, List, [], ◌∷◌, ◌++◌, map, length, get_or, drop, sym, refl, ap, ◌∙◌, append_assoc, append-nil}
-use Rattle.std.proofs.lemmas.List.{at_drop_more, drop_all}
+use Rattle.std.proofs.Common.{◌≡◌, ℕ, ◌+◌, ◌<◌, List, [], ◌∷◌, ◌++◌, map, length, get_or, take, Some, None, Option, MatchOption, sym, refl, ap, ◌∙◌, append_assoc}
+use Rattle.std.proofs.lemmas.List.{take_more, map-append}
+use Rattle.fields.specs.Parts.{ended}
+use Rattle.entries.specs.declared.types.RigLine.{RigLine}
+use Rattle.entries.specs.declared.types.Setting.{Setting}
+use Rattle.entries.specs.declared.types.HeadCall.{HeadCall}
 use Rattle.entries.specs.declared.types.Entry.{Entry}
+use Rattle.entries.specs.declared.types.Entry.TheVariants as entry
 use Rattle.entries.specs.Rendering.{line_text}
+use Rattle.scenario.specs.Holdings.{rig_line, in_order}
 use Rattle.scenario.specs.Laws.{scenario_text}
 
-pub text-append : (es ds : List Entry) → scenario_text (es ++ ds) ≡ scenario_text es ++ scenario_text ds
-text-append [] ds = refl
-text-append (e ∷ es) ds = ap (λ l. line_text e ++ (10 ∷ l)) (text-append es ds) ∙ sym (append_assoc (line_text e) (10 ∷ scenario_text es) (scenario_text ds))
+ended-append : (ls ms : List (List ℕ)) → ended 10 (ls ++ ms) ≡ ended 10 ls ++ ended 10 ms
+ended-append [] ms = refl
+ended-append (l ∷ ls) ms = ap (λ x. l ++ (10 ∷ x)) (ended-append ls ms) ∙ sym (append_assoc l (10 ∷ ended 10 ls) (ended 10 ms))
 
--- one line more of a list, and the end of the list
-module _ {X : Type 0} (said : X → Entry) (xs : List X) (i : ℕ) where
-  abbrev left : List X → List ℕ
-  left ys = scenario_text (map said ys)
+-- one line more
+pub line-more : {X : Type 0} (shown : X → List ℕ) (xs : List X) (i : ℕ) (x : X) → i < length xs → x ≡ get_or xs i x → ended 10 (map shown (take i xs)) ++ (shown x ++ (10 ∷ [])) ≡ ended 10 (map shown (take (i + 1) xs))
+line-more shown xs i x low is =
+    ap (λ y. ended 10 (map shown (take i xs)) ++ (shown y ++ (10 ∷ []))) is
+    ∙ sym (ended-append (map shown (take i xs)) (shown (get_or xs i x) ∷ []))
+    ∙ ap (ended 10) (sym (map-append shown (take i xs) (get_or xs i x ∷ [])))
+    ∙ ap (λ l. ended 10 (map shown l)) (sym (take_more xs i x low))
 
-  pub line-more : (out more all : List ℕ) (x : X) (e : Entry) → i < length xs → x ≡ get_or xs i x → e ≡ said x → out ++ left (drop i xs) ≡ all → more ≡ out ++ scenario_text (e ∷ []) → more ++ left (drop (i + 1) xs) ≡ all
-  line-more out more all x e low is means inv wrote =
-      ap (λ l. l ++ left (drop (i + 1) xs)) wrote
-      ∙ append_assoc out (scenario_text (e ∷ [])) (left (drop (i + 1) xs))
-      ∙ ap (λ l. out ++ l) (sym (text-append (e ∷ []) (map said (drop (i + 1) xs))))
-      ∙ ap (λ y. out ++ scenario_text (y ∷ map said (drop (i + 1) xs))) (means ∙ ap said is)
-      ∙ ap (λ l. out ++ l) (sym (at_drop_more left xs i x low))
-      ∙ inv
+-- the lines of a list of entries of one kind
+lines-said : {X : Type 0} (said : X → Entry) (xs : List X) → ended 10 (map (λ x. line_text (said x)) xs) ≡ scenario_text (map said xs)
+lines-said said [] = refl
+lines-said said (x ∷ xs) = ap (λ l. line_text (said x) ++ (10 ∷ l)) (lines-said said xs)
 
-  pub lines_end : (out all : List ℕ) → length xs ≤ i → out ++ left (drop i xs) ≡ all → out ≡ all
-  lines_end out all high inv = sym (append-nil out) ∙ ap (λ (l : List X). out ++ left l) (sym (drop_all i xs high)) ∙ inv
+text-append : (es ds : List Entry) → scenario_text (es ++ ds) ≡ scenario_text es ++ scenario_text ds
+text-append es ds = ap (ended 10) (map-append line_text es ds) ∙ ended-append (map line_text es) (map line_text ds)
 
-pub three-written : (rigs settings calls : List Entry) (out one two three : List ℕ) → one ≡ out ++ scenario_text rigs → two ≡ one ++ scenario_text settings → three ≡ two ++ scenario_text calls → three ≡ out ++ scenario_text (rigs ++ (settings ++ calls))
-three-written rigs settings calls out one two three p q r =
-    r ∙ ap (λ l. l ++ scenario_text calls) (q ∙ ap (λ l. l ++ scenario_text settings) p)
-    ∙ append_assoc (out ++ scenario_text rigs) (scenario_text settings) (scenario_text calls)
-    ∙ append_assoc out (scenario_text rigs) (scenario_text settings ++ scenario_text calls)
-    ∙ ap (λ l. out ++ (scenario_text rigs ++ l)) (sym (text-append settings calls))
-    ∙ ap (λ l. out ++ l) (sym (text-append rigs (settings ++ calls)))
+rig-listed : (rig : Option RigLine) (rigs : List RigLine) → MatchOption rig (rigs ≡ []) (λ r. rigs ≡ r ∷ []) → map entry.Rig rigs ≡ rig_line rig
+rig-listed None rigs e = ap (map entry.Rig) e
+rig-listed (Some r) rigs e = ap (map entry.Rig) e
+
+abbrev pub shown-by : {X : Type 0} → (X → Entry) → X → List ℕ
+shown-by said x = line_text (said x)
+
+-- the three lists that are written, where the rig line is a list of one or none
+pub all-written : (rig : Option RigLine) (rigs : List RigLine) (ss ts : List Setting) (ks js : List HeadCall) → MatchOption rig (rigs ≡ []) (λ r. rigs ≡ r ∷ []) → ts ≡ ss → js ≡ ks
+    → ended 10 (map (shown-by entry.Rig) rigs) ++ (ended 10 (map (shown-by entry.Set) ts) ++ ended 10 (map (shown-by entry.Call) js)) ≡ scenario_text (in_order rig ss ks)
+all-written rig rigs ss ts ks js one p q =
+    let a = lines-said entry.Rig rigs ∙ ap scenario_text (rig-listed rig rigs one) in
+    let b = lines-said entry.Set ts ∙ ap (λ l. scenario_text (map entry.Set l)) p in
+    let d = lines-said entry.Call js ∙ ap (λ l. scenario_text (map entry.Call l)) q in
+    rw (text-append (rig_line rig) (map entry.Set ss ++ map entry.Call ks), text-append (map entry.Set ss) (map entry.Call ks)) (λ i. a i ++ (b i ++ d i))

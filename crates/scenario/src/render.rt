@@ -1,83 +1,43 @@
 // The text of a scenario.
-ghost use Rattle.std.specs.Prelude.{◌≡◌, [], ◌∷◌, ◌++◌, map, IfOk, string_bytes, OnOk};
-ghost use Rattle.entries.specs.declared.types.Entry.{Entry as AnEntry};
-ghost use Rattle.entries.specs.declared.types.Entry.TheVariants as entries;
-ghost use Rattle.scenario.specs.Holdings.{entries_of, rig_line};
+ghost use Rattle.std.specs.Prelude.{◌≡◌, ℕ, List, map, Some, IfOk, string_bytes};
+ghost use Rattle.std.specs.Fmt.{WritesOnOk};
+ghost use Rattle.fields.specs.Parts.{ended};
+ghost use Rattle.scenario.specs.Holdings.{entries_of};
 ghost use Rattle.scenario.specs.Laws.{scenario_text, RenderedSays};
 
 use crate::types::Scenario;
-use entries::{Entry, HeadCall, RigLine, Setting};
 use std::alloc::{AllocError, Global};
+use std::fmt;
 
-// What is listed in a scenario, as what a line says.
-trait Listed: Copy {
-    ghost said: { Self → AnEntry };
-
-    fn entry(self) -> Entry
-        ensures { result ≡ said self };
-}
-
-impl Listed for Setting {
-    ghost said = { λ x. entries.Set x };
-
-    fn entry(self) -> Entry {
-        Entry::Set(self)
-    }
-}
-
-impl Listed for HeadCall {
-    ghost said = { λ k. entries.Call k };
-
-    fn entry(self) -> Entry {
-        Entry::Call(self)
-    }
-}
-
-// Adds a line.
-fn write_line(out: &mut String, said: Entry) -> Result<(), AllocError>
-    ensures { OnOk result (string_bytes out.new ≡ string_bytes out.old ++ scenario_text (said ∷ [])) }
-{
-    writeln!(out, "{said}")
-}
-
-// Adds a line for each of a list.
-fn write_lines<T: Listed>(out: &mut String, items: &[T]) -> Result<(), AllocError>
-    ensures { OnOk result (string_bytes out.new ≡ string_bytes out.old ++ scenario_text (map T.Listed.said items.now)) }
+// Writes each item, on a line of its own.
+fn write_lines<T: fmt::Display, W: fmt::Write>(
+    f: &mut fmt::Formatter<W>,
+    items: &[T],
+) -> fmt::Result
+    ensures { (shown : T → List ℕ) → ((x : T) → T.output x ≡ Some (shown x)) → WritesOnOk W.write_str_gives f.old result (ended 10 (map shown items.now)) f.new }
 {
     for item in items {
-        write_line(out, item.entry())?;
+        writeln!(f, "{item}")?;
     }
     Ok(())
 }
 
-// Adds the rig line, if there is one.
-fn write_rig(out: &mut String, rig: Option<RigLine>) -> Result<(), AllocError>
-    ensures { OnOk result (string_bytes out.new ≡ string_bytes out.old ++ scenario_text (rig_line rig)) }
-{
-    match rig {
-        Some(rig) => write_line(out, Entry::Rig(rig)),
-        None => Ok(()),
+impl fmt::Display for Scenario {
+    ghost output = { λ s. Some (scenario_text (entries_of s)) };
+
+    fn fmt<W: fmt::Write>(&self, f: &mut fmt::Formatter<W>) -> fmt::Result {
+        write_lines(f, self.rig.as_slice())?;
+        write_lines(f, &self.settings)?;
+        write_lines(f, &self.calls)
     }
 }
 
 impl Scenario {
-    // Adds all lines, in their order.
-    fn write_text(&self, out: &mut String) -> Result<(), AllocError>
-        ensures { OnOk result (string_bytes out.new ≡ string_bytes out.old ++ scenario_text (entries_of self.now)) }
-    {
-        write_rig(out, self.rig)?;
-        write_lines(out, &self.settings)?;
-        write_lines(out, &self.calls)?;
-        Ok(())
-    }
-
     // The text of the scenario, its policy always written out.
     pub fn render(&self, heap: Global) -> Result<String, AllocError>
         ensures written { IfOk result (λ t. string_bytes t ≡ scenario_text (entries_of self.now)) }
         ensures inverse { RenderedSays }
     {
-        let mut out = String::new(heap);
-        self.write_text(&mut out)?;
-        Ok(out)
+        format!(in heap; "{self}")
     }
 }

@@ -1,9 +1,9 @@
-use Rattle.std.proofs.Common.{◌≡◌, ◌++◌, map, drop, string_bytes}
-use Rattle.scenario.specs.Laws.{scenario_text}
+use Rattle.std.proofs.Common.{◌≡◌, ℕ, List, map, take, Some}
+use Rattle.std.specs.Fmt.{IsPlainFormatter, HasWritten}
+use Rattle.fields.specs.Parts.{ended}
 use Rattle.scenario.proofs.render.write_lines.Given as goal
 
--- what is written so far, with the lines that are left, is what is to be written
 abbrev pub invariant-loop-item : goal.invariant-loop-item
 invariant-loop-item g l =
-    string_bytes l.out ++ scenario_text (map g.T.Listed.said (drop l.item-index l.items))
-    ≡ string_bytes l.initial.out ++ scenario_text (map g.T.Listed.said l.items)
+    (shown : g.row.T.Denot → List ℕ) → ((x : g.row.T.Denot) → g.T.Display.output x ≡ Some (shown x))
+    → IsPlainFormatter l.initial.f → HasWritten g.W.Write.write_str_gives l.initial.f (ended 10 (map shown (take l.item-index l.items))) l.f
