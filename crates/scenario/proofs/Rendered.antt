@@ -1,5 +1,8 @@
 -- Writing the text of a scenario, line after line.
-use Rattle.std.proofs.Common.{◌≡◌, ℕ, ◌+◌, ◌<◌, List, [], ◌∷◌, ◌++◌, map, length, get_or, take, Some, None, Option, MatchOption, sym, refl, ap, ◌∙◌, append_assoc}
+use Rattle.std.proofs.Common.{◌≡◌, ℕ, ◌+◌, ◌<◌, List, [], ◌∷◌, ◌++◌, map, length, get_or, take, Some, None, Ok, Option, MatchOption, sym, refl, ap, ◌∙◌, subst, append_assoc}
+use Rattle.std.proofs.Output.{has_written_append, has_written_of_eq}
+use Rattle.std.specs.Fmt.{HasWritten, DisplaysOnOk, with_newline}
+use Rattle.std.specs.declared.fmt.Formatter.{Formatter}
 use Rattle.std.proofs.lemmas.List.{take_more, map-append}
 use Rattle.fields.specs.Parts.{ended}
 use Rattle.entries.specs.declared.types.RigLine.{RigLine}
@@ -16,12 +19,18 @@ ended-append [] ms = refl
 ended-append (l ∷ ls) ms = ap (λ x. l ++ (10 ∷ x)) (ended-append ls ms) ∙ sym (append_assoc l (10 ∷ ended 10 ls) (ended 10 ms))
 
 -- one line more
-pub line-more : {X : Type 0} (shown : X → List ℕ) (xs : List X) (i : ℕ) (x : X) → i < length xs → x ≡ get_or xs i x → ended 10 (map shown (take i xs)) ++ (shown x ++ (10 ∷ [])) ≡ ended 10 (map shown (take (i + 1) xs))
+line-more : {X : Type 0} (shown : X → List ℕ) (xs : List X) (i : ℕ) (x : X) → i < length xs → x ≡ get_or xs i x → ended 10 (map shown (take i xs)) ++ (shown x ++ (10 ∷ [])) ≡ ended 10 (map shown (take (i + 1) xs))
 line-more shown xs i x low is =
     ap (λ y. ended 10 (map shown (take i xs)) ++ (shown y ++ (10 ∷ []))) is
     ∙ sym (ended-append (map shown (take i xs)) (shown (get_or xs i x) ∷ []))
     ∙ ap (ended 10) (sym (map-append shown (take i xs) (get_or xs i x ∷ [])))
     ∙ ap (λ l. ended 10 (map shown l)) (sym (take_more xs i x low))
+
+pub line-written : {W X : Type 0} (took : W → List ℕ → W → Type 0) (f g h : Formatter W) (shown : X → List ℕ) (xs : List X) (i : ℕ) (x : X) (o : Option (List ℕ)) → i < length xs → x ≡ get_or xs i x → o ≡ Some (shown x)
+    → HasWritten took f (ended 10 (map shown (take i xs))) g → DisplaysOnOk took g (Ok tt) (with_newline o) h → HasWritten took f (ended 10 (map shown (take (i + 1) xs))) h
+line-written took f g h shown xs i x o low is prints so_far wrote =
+    let P : Option (List ℕ) → Type 0 = λ y. DisplaysOnOk took g (Ok tt) (with_newline y) h in
+    has_written_of_eq took _ _ _ _ (line-more shown xs i x low is) (has_written_append took _ _ _ _ _ so_far (subst P prints wrote so_far.plain refl))
 
 -- the lines of a list of entries of one kind
 lines-said : {X : Type 0} (said : X → Entry) (xs : List X) → ended 10 (map (λ x. line_text (said x)) xs) ≡ scenario_text (map said xs)

@@ -21,8 +21,8 @@ use Rattle.scenario.specs.declared.types.ReadError.{ReadError}
 use Rattle.scenario.specs.declared.types.ReadError.TheVariants as error
 use Rattle.scenario.specs.Texts.{LinesRead, start, TextSays, long, empty, lined}
 use Rattle.scenario.specs.Holdings.{rig_line, in_order, Read}
-use Rattle.scenario.specs.Laws.{scenario_text, Lawful, LinesSay, Whole, SaysExactly, RenderedSays, ending, ReadBack}
-use Rattle.scenario.specs.Steps.{EndWritten}
+use Rattle.scenario.specs.Laws.{scenario_text, Lawful, LinesSay, Whole, SaysExactly, RenderedSays, ReadBack}
+use Rattle.scenario.specs.Steps.{Told}
 
 -- how many lines and entries there are
 
@@ -141,7 +141,7 @@ rendered-says es some lawful short = whole-said (scenario_text es) es (record { 
 pub few-held : (text : List ℕ) (es : List Entry) (end : Result (Unit {0}) ReadError) → Read text es end → end ≡ Ok tt → length es ≤ 65536
 few-held text es end h e = let P : Result (Unit {0}) ReadError → Type 0 = λ x. Read text es x in few-entries text es None (subst P e h)
 
-pub told_back : (text : List ℕ) (es : List Entry) (end : Result (Unit {0}) ReadError) (lines out : List ℕ) → Read text es end → lines ≡ scenario_text es → EndWritten es end lines out → ReadBack text out
-told_back text es (Ok _) lines out h e w = (es, (None, h, w ∙ ap (λ l. l ++ (ending es None ++ (10 ∷ []))) e))
-told_back text es (Err (error.Fault f)) lines out h e w = (es, (Some f, h, w ∙ ap (λ l. l ++ (ending es (Some f) ++ (10 ∷ []))) e))
-told_back text es (Err (error.NoMemory m)) lines out h e w = absurd w
+pub told_back : (text : List ℕ) (es : List Entry) (end : Result (Unit {0}) ReadError) (out : List ℕ) → Read text es end → Told es end out → ReadBack text out
+told_back text es (Ok _) out h w = (es, (None, h, w))
+told_back text es (Err (error.Fault f)) out h w = (es, (Some f, h, w))
+told_back text es (Err (error.NoMemory e)) out h w = absurd w

@@ -18,7 +18,7 @@ use Rattle.scenario.specs.declared.texts.Entries.{Entries}
 use Rattle.scenario.specs.declared.types.Scenario.{Scenario}
 use Rattle.scenario.specs.Texts.{RigRead, LinesRead, start}
 use Rattle.scenario.specs.Holdings.{in_order}
-use Rattle.scenario.specs.Laws.{ending}
+use Rattle.scenario.specs.Laws.{scenario_text, ending}
 
 -- a scenario by its lists
 pub record Held : Type 0 where
@@ -82,8 +82,8 @@ abbrev pub LinesCounted : List Piece → Result ℕ RigFault → Type 0
 LinesCounted lines (Ok n) = (es : List Entry) × LinesRead start lines es None × (n ≡ length es)
 LinesCounted lines (Err f) = (es : List Entry) × LinesRead start lines es (Some f)
 
--- how the reading ended is added to what was written
-abbrev pub EndWritten : List Entry → Result (Unit {0}) ReadError → List ℕ → List ℕ → Type 0
-EndWritten es (Ok _) before after = after ≡ before ++ (ending es None ++ (10 ∷ []))
-EndWritten es (Err (error.Fault f)) before after = after ≡ before ++ (ending es (Some f) ++ (10 ∷ []))
-EndWritten es (Err (error.NoMemory e)) before after = ⊥
+-- what is told of a reading: its lines, and how it ended; nothing, where memory ran out
+abbrev pub Told : List Entry → Result (Unit {0}) ReadError → List ℕ → Type 0
+Told es (Ok _) out = out ≡ scenario_text es ++ (ending es None ++ (10 ∷ []))
+Told es (Err (error.Fault f)) out = out ≡ scenario_text es ++ (ending es (Some f) ++ (10 ∷ []))
+Told es (Err (error.NoMemory e)) out = ⊥

@@ -1,9 +1,9 @@
 // What is printed of a text that was read.
-ghost use Rattle.std.specs.Prelude.{◌≡◌, ◌≤◌, length, IfOk, Ok, string_bytes, OnOk};
+ghost use Rattle.std.specs.Prelude.{◌≡◌, ◌≤◌, length, IfOk, Ok, string_bytes};
 ghost use Rattle.scenario.specs.Holdings.{entries_of};
 ghost use Rattle.scenario.specs.Laws.{ReadBack, SaysExactly};
 ghost use Rattle.scenario.specs.Texts.{TextOnce};
-ghost use Rattle.scenario.specs.Steps.{EndWritten};
+ghost use Rattle.scenario.specs.Steps.{Told};
 
 use crate::texts::read;
 use crate::types::{ReadError, Reading, Scenario};
@@ -15,26 +15,22 @@ impl Scenario {
         requires { length (entries_of self.now) ≤ 65536 }
         ensures { result ≡ length (entries_of self.now) }
     {
-        let listed = self.settings.len() + self.calls.len();
-        match self.rig {
-            Some(_) => listed + 1,
-            None => listed,
-        }
+        usize::from(self.rig.is_some()) + self.settings.len() + self.calls.len()
     }
 
-    // Adds the line that tells how the reading ended.
-    fn write_end(&self, out: &mut String, end: Result<(), ReadError>) -> Result<(), AllocError>
+    // The lines of the scenario, and a last one that tells how the reading ended.
+    fn told(&self, heap: Global, end: Result<(), ReadError>) -> Result<String, AllocError>
         requires { end ≡ Ok tt → length (entries_of self.now) ≤ 65536 }
-        ensures { OnOk result (EndWritten (entries_of self.now) end (string_bytes out.old) (string_bytes out.new)) }
+        ensures { IfOk result (λ out. Told (entries_of self.now) end (string_bytes out)) }
     {
         match end {
             Ok(()) => {
                 let lines = self.count();
-                writeln!(out, "whole\t{lines}")
+                format!(in heap; "{self}whole\t{lines}\n")
             }
             Err(ReadError::Fault(fault)) => {
                 let report = fault.report();
-                writeln!(out, "{report}")
+                format!(in heap; "{self}{report}\n")
             }
             Err(ReadError::NoMemory(e)) => Err(e),
         }
@@ -49,7 +45,5 @@ pub fn readback(heap: Global, text: &[u8]) -> Result<String, AllocError>
     ensures exact { SaysExactly }
 {
     let Reading { scenario, end } = read(heap, text);
-    let mut out = scenario.render(heap)?;
-    scenario.write_end(&mut out, end)?;
-    Ok(out)
+    scenario.told(heap, end)
 }
