@@ -135,11 +135,6 @@ come-short lines at h g come e =
     let front : take (length (listed h)) lines ≡ come.done = ap (take (length (listed h))) come.are ∙ take_at come.done (to_come at) (length (listed h)) (as_many start come.done (listed h) come.read) in
     subst P (sym e) (subst Q (sym front) come.read)
 
-pub come-last : (lines : List Piece) (at : Entries) (h : Held) → Come lines at h → to_come at ≡ [] → LinesRead start lines (listed h) None
-come-last lines at h come e =
-    let P : List Piece → Type 0 = λ x. LinesRead start x (listed h) None in
-    subst P (sym (come.are ∙ ap (λ x. come.done ++ x) e ∙ append-nil come.done)) come.read
-
 -- the whole text
 
 pub text-ends : (text : List ℕ) (es : List Entry) (r : Result (Unit {0}) ReadError) → (0 < length text) × (length text ≤ 65536) → Ends (lines_of_text text) es r → Read text es r
@@ -195,9 +190,6 @@ counting-next lines at after n e c next =
 
 pub counting-fault : (lines : List Piece) (at after : Entries) (n : ℕ) (f : RigFault) → Counting lines at n → NextSaid at (Some (Err f)) after → LinesCounted lines (Err f)
 counting-fault lines at after n f c next = (listed c.kept, come-fault lines at after c.kept c.come f next)
-
-pub counting-last : (lines : List Piece) (at : Entries) (n : ℕ) → Counting lines at n → to_come at ≡ [] → LinesCounted lines (Ok n)
-counting-last lines at n c e = (listed c.kept, come-last lines at c.kept c.come e, c.is)
 
 pub text-counted : (text : List ℕ) (r : Result ℕ RigFault) → (0 < length text) × (length text ≤ 65536) → LinesCounted (lines_of_text text) r → Checked text r
 text-counted text (Ok n) (some, short) (es, h, e) = (es, lined es None some short h, e)

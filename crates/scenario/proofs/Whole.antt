@@ -1,16 +1,12 @@
 -- A text says a scenario to its end exactly when it is a text of that scenario.
-use Rattle.std.proofs.Common.{◌≡◌, ℕ, suc, ◌+◌, ◌<◌, ◌≤◌, eqb, ◌⊎◌, List, [], ◌∷◌, ◌++◌, map, length, Some, None, Ok, Err, Option, Result, sym, refl, ap, ◌∙◌, subst, inl, inr, ⊎_elim, arith, length-append}
+use Rattle.std.proofs.Common.{◌≡◌, ℕ, suc, ◌<◌, ◌≤◌, eqb, ◌⊎◌, List, [], ◌∷◌, ◌++◌, map, length, Some, None, Ok, Option, Result, sym, refl, ap, ◌∙◌, subst, inl, inr, ⊎_elim, arith, length-append}
 use Rattle.std.specs.List.{AllByRecursion, join_with_byte}
-use Rattle.std.proofs.lemmas.List.{append_cancel_right, length-map}
+use Rattle.std.proofs.lemmas.List.{append_cancel_right}
 use Rattle.std.proofs.lemmas.Bool.{cond_both}
 use Rattle.faults.specs.declared.types.Place.{Place}
 use Rattle.fields.specs.Parts.{Piece, lines_of, onto, after_line, lines_from, text_start, ended, Without}
 use Rattle.fields.proofs.Joins.{lines-joined, lines-ended, lines-rejoined, ended-joined}
-use Rattle.entries.specs.declared.types.RigLine.{RigLine}
-use Rattle.entries.specs.declared.types.Setting.{Setting}
-use Rattle.entries.specs.declared.types.HeadCall.{HeadCall}
 use Rattle.entries.specs.declared.types.Entry.{Entry}
-use Rattle.entries.specs.declared.types.Entry.TheVariants as entry
 use Rattle.lines.specs.declared.types.Stage.{Stage}
 use Rattle.entries.specs.Rendering.{line_text}
 use Rattle.lines.specs.Faults.{stage_after}
@@ -18,11 +14,9 @@ use Rattle.lines.proofs.Texts.{says-line}
 use Rattle.faults.specs.declared.types.RigFault.{RigFault}
 use Rattle.scenario.proofs.Onward.{lines-many}
 use Rattle.scenario.specs.declared.types.ReadError.{ReadError}
-use Rattle.scenario.specs.declared.types.ReadError.TheVariants as error
 use Rattle.scenario.specs.Texts.{LinesRead, start, TextSays, long, empty, lined}
-use Rattle.scenario.specs.Holdings.{rig_line, in_order, Read}
-use Rattle.scenario.specs.Laws.{scenario_text, Lawful, LinesSay, Whole, SaysExactly, RenderedSays, ReadBack}
-use Rattle.scenario.specs.Steps.{Told}
+use Rattle.scenario.specs.Holdings.{Read}
+use Rattle.scenario.specs.Laws.{scenario_text, Lawful, LinesSay, Whole, SaysExactly, RenderedSays}
 
 -- how many lines and entries there are
 
@@ -36,10 +30,6 @@ pub few-entries : (text : List ℕ) (es : List Entry) (fault : Option RigFault) 
 few-entries text _ _ (long h) = omega arith
 few-entries text _ _ (empty h) = omega arith
 few-entries text _ _ (lined es fault some short h) = omega (arith, entries-many start text_start (lines_of text) es fault h, lines-many text)
-
-pub count-is : (rig : Option RigLine) (ss : List Setting) (ks : List HeadCall) → length (in_order rig ss ks) ≡ length (rig_line rig) + (length ss + length ks)
-count-is rig ss ks =
-    omega (arith, length-append (rig_line rig) (map entry.Set ss ++ map entry.Call ks), length-append (map entry.Set ss) (map entry.Call ks), length-map ss entry.Set, length-map ks entry.Call)
 
 -- lines, and what they say
 
@@ -140,8 +130,3 @@ rendered-says es some lawful short = whole-said (scenario_text es) es (record { 
 
 pub few-held : (text : List ℕ) (es : List Entry) (end : Result (Unit {0}) ReadError) → Read text es end → end ≡ Ok tt → length es ≤ 65536
 few-held text es end h e = let P : Result (Unit {0}) ReadError → Type 0 = λ x. Read text es x in few-entries text es None (subst P e h)
-
-pub told_back : (text : List ℕ) (es : List Entry) (end : Result (Unit {0}) ReadError) (out : List ℕ) → Read text es end → Told es end out → ReadBack text out
-told_back text es (Ok _) out h w = (es, (None, h, w))
-told_back text es (Err (error.Fault f)) out h w = (es, (Some f, h, w))
-told_back text es (Err (error.NoMemory e)) out h w = absurd w
