@@ -1,20 +1,20 @@
 // The text of a scenario.
-ghost use Rattle.std.specs.Prelude.{◌≡◌, ℕ, List, map, Some, IfOk, string_bytes};
-ghost use Rattle.std.specs.Fmt.{WritesOnOk};
-ghost use Rattle.fields.specs.Parts.{ended};
+ghost use Rattle.std.specs.Prelude.{◌≡◌, Some, IfOk, string_bytes};
 ghost use Rattle.scenario.specs.Holdings.{entries_of};
 ghost use Rattle.scenario.specs.Laws.{scenario_text, RenderedSays};
+ghost use Rattle.scenario.specs.Steps.{WritesLines};
 
 use crate::types::Scenario;
 use std::alloc::{AllocError, Global};
 use std::fmt;
 
 // Writes each item, on a line of its own.
+#[tactic(auto, using(crate::proofs::Rendered::no_lines, crate::proofs::Rendered::line_written, crate::proofs::Rendered::lines_written))]
 fn write_lines<T: fmt::Display, W: fmt::Write>(
     f: &mut fmt::Formatter<W>,
     items: &[T],
 ) -> fmt::Result
-    ensures { (shown : T → List ℕ) → ((x : T) → T.output x ≡ Some (shown x)) → WritesOnOk W.write_str_gives f.old result (ended 10 (map shown items.now)) f.new }
+    ensures { WritesLines W.write_str_gives T.output f.old items.now result f.new }
 {
     for item in items {
         writeln!(f, "{item}")?;
@@ -25,6 +25,7 @@ fn write_lines<T: fmt::Display, W: fmt::Write>(
 impl fmt::Display for Scenario {
     ghost output = { λ s. Some (scenario_text (entries_of s)) };
 
+    #[tactic(auto, using(crate::proofs::Rendered::three_written))]
     fn fmt<W: fmt::Write>(&self, f: &mut fmt::Formatter<W>) -> fmt::Result {
         write_lines(f, self.rig.as_slice())?;
         write_lines(f, &self.settings)?;
