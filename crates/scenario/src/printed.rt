@@ -7,6 +7,7 @@ ghost use Rattle.scenario.specs.Steps.{Told};
 
 use crate::texts::read;
 use crate::types::{ReadError, Reading, Scenario};
+use faults::Report;
 use std::alloc::{AllocError, Global};
 
 impl Scenario {
@@ -29,7 +30,7 @@ impl Scenario {
                 format!(in heap; "{self}whole\t{lines}\n")
             }
             Err(ReadError::Fault(fault)) => {
-                let report = fault.report();
+                let report = Report::from(fault);
                 format!(in heap; "{self}{report}\n")
             }
             Err(ReadError::NoMemory(e)) => Err(e),
