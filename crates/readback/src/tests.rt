@@ -24,7 +24,7 @@ fn each_told(rt: &impl Abort, heap: Global, cases: &[Case]) -> Result<(), Fail> 
     Ok(())
 }
 
-static TEXTS_WITHOUT_A_RIG: [Case; 6] = [
+static TEXTS_WITHOUT_A_RIG: &[Case] = &[
     Case {
         text: b"",
         told: "fault\t24\t1\t0\tline\n",
@@ -51,7 +51,7 @@ static TEXTS_WITHOUT_A_RIG: [Case; 6] = [
     },
 ];
 
-static RIG_LINES: [Case; 10] = [
+static RIG_LINES: &[Case] = &[
     Case {
         text: b"rig\t8\t1024\tstores\tcareful",
         told: "rig\t8\t1024\tstores\tcareful\nwhole\t1\n",
@@ -94,7 +94,7 @@ static RIG_LINES: [Case; 10] = [
     },
 ];
 
-static NUMBERS_AND_AMOUNTS: [Case; 11] = [
+static NUMBERS_AND_AMOUNTS: &[Case] = &[
     Case {
         text: b"rig\t1\t1\tlines\nset\t0\t-0\n",
         told: "rig\t1\t1\tlines\tplain\nfault\t23\t2\t20\tfield\n",
@@ -141,7 +141,7 @@ static NUMBERS_AND_AMOUNTS: [Case; 11] = [
     },
 ];
 
-static LATER_LINES: [Case; 9] = [
+static LATER_LINES: &[Case] = &[
     Case {
         text: b"rig\t1\t1\tlines\nrig\t1\t1\tlines\n",
         told: "rig\t1\t1\tlines\tplain\nfault\t24\t2\t14\tline\n",
@@ -183,10 +183,10 @@ static LATER_LINES: [Case; 9] = [
 #[test]
 fn texts(rt: HostRuntime) -> Result<(), Fail> {
     let heap = rt.alloc();
-    each_told(&rt, heap, &TEXTS_WITHOUT_A_RIG)?;
-    each_told(&rt, heap, &RIG_LINES)?;
-    each_told(&rt, heap, &NUMBERS_AND_AMOUNTS)?;
-    each_told(&rt, heap, &LATER_LINES)
+    each_told(&rt, heap, TEXTS_WITHOUT_A_RIG)?;
+    each_told(&rt, heap, RIG_LINES)?;
+    each_told(&rt, heap, NUMBERS_AND_AMOUNTS)?;
+    each_told(&rt, heap, LATER_LINES)
 }
 
 #[test]
@@ -201,9 +201,7 @@ fn longest_text(rt: HostRuntime) -> Result<(), Fail> {
     let heap = rt.alloc();
     // 20 bytes, and 16,379 lines of 4: 65,536 in all
     let mut text = b"rig\t1\t1\tlines\tplain\n".to_vec(heap)?;
-    for _ in 0..16379 {
-        text.extend_from_slice(b"o\t0\n")?;
-    }
+    text.extend_from_slice(&b"o\t0\n".repeat(heap, 16_379)?)?;
     assert_eq!(rt; text.len(), 65_536);
     let out = readback(heap, &text)?;
     assert!(rt; out.as_str().starts_with("rig\t1\t1\tlines\tplain\no\t0\n"));
