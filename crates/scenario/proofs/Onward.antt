@@ -1,5 +1,6 @@
 -- Reading on, line after line.
-use Rattle.std.proofs.Common.{◌≡◌, ℕ, suc, ◌+◌, ◌<◌, ◌≤◌, eqb, List, [], ◌∷◌, ◌++◌, map, length, take, Some, None, Ok, Err, Option, Result, sym, refl, ap, ◌∙◌, subst, ⊎_elim, append_assoc, append-nil, arith}
+use Rattle.std.proofs.Common.{◌≡◌, ℕ, suc, ◌+◌, ◌<◌, ◌≤◌, eqb, List, [], ◌∷◌, ◌++◌, map, length, take, Some, None, Ok, Err, Option, Result, sym, refl, ap, ◌∙◌, subst, ⊎_elim, append_assoc, append-nil, arith, IsErrAnd}
+use Rattle.std.proofs.lemmas.Result.{err_from_is_err_and}
 use Rattle.std.proofs.lemmas.List.{take_at, map-append, length_push}
 use Rattle.std.proofs.lemmas.Bool.{cond_both}
 use Rattle.faults.specs.declared.types.Place.{Place}
@@ -19,10 +20,11 @@ use Rattle.faults.specs.declared.types.RigFault.{RigFault}
 use Rattle.faults.specs.declared.types.RigFault.TheVariants as in_rig
 use Rattle.scenario.specs.declared.texts.Entries.{Entries}
 use Rattle.scenario.specs.declared.types.ReadError.{ReadError}
+use Rattle.std.specs.declared.alloc.AllocError.{AllocError}
 use Rattle.scenario.specs.declared.types.ReadError.TheVariants as error
 use Rattle.scenario.specs.Texts.{RigRead, LinesRead, start, lines_of_text, TextSays, long, empty, lined}
 use Rattle.scenario.specs.Holdings.{rig_line, in_order, Read, Checked}
-use Rattle.scenario.specs.Steps.{Held, nothing, listed, put, Orderly, stage_at, to_come, NextSaid, Sized, Ends, LinesCounted}
+use Rattle.scenario.specs.Steps.{Held, nothing, listed, put, Orderly, stage_at, to_come, LineSaid, Sized, Ends, LinesCounted}
 
 -- an entry that may stand at a stage goes to the end of what is held
 
@@ -108,32 +110,43 @@ module _ (lines : List Piece) (at after : Entries) (h : Held) (come : Come lines
   here : (l : Piece) (r : Result Entry RigFault) → RigRead at.stage l r → RigRead (stage_at start (listed h)) l r
   here l r = let P : Stage → Type 0 = λ x. RigRead x l r in subst P come.stage_is
 
-  pub come-next : (e : Entry) (g : Held) → NextSaid at (Some (Ok e)) after → g ≡ put h e → Come lines after g
-  come-next e g (l, next, r, moved) p =
-      let last = put_last at.stage h e come.orderly r.0.1 in
+  pub come_next : (e : Entry) (g : Held) → LineSaid at (Ok e) after → g ≡ put h e → Come lines after g
+  come_next e g said p =
+      let last = put_last at.stage h e come.orderly said.read.0.1 in
       let same : listed g ≡ listed h ++ (e ∷ []) = ap listed p ∙ last.0 in
-      let P : List Entry → Type 0 = λ x. LinesRead start (come.done ++ (l ∷ [])) x None in
+      let P : List Entry → Type 0 = λ x. LinesRead start (come.done ++ (said.line ∷ [])) x None in
       let O : Held → Type 0 = λ x. Orderly (stage_after at.stage e) x in
       let R : Stage → Type 0 = λ x. Orderly x g in
       record {
-        done = come.done ++ (l ∷ []);
-        are = come.are ∙ ap (λ x. come.done ++ x) next ∙ sym (append_assoc come.done (l ∷ []) (to_come after));
-        read = subst P (sym same) (read_more start come.done (listed h) l e come.read (here l (Ok e) r));
-        stage_is = moved ∙ ap (λ x. stage_after x e) come.stage_is ∙ sym (stage-more start (listed h) e) ∙ ap (stage_at start) (sym same);
-        orderly = subst R (sym moved) (subst O (sym p) last.1);
+        done = come.done ++ (said.line ∷ []);
+        are = come.are ∙ ap (λ x. come.done ++ x) said.next ∙ sym (append_assoc come.done (said.line ∷ []) (to_come after));
+        read = subst P (sym same) (read_more start come.done (listed h) said.line e come.read (here said.line (Ok e) said.read));
+        stage_is = said.moved ∙ ap (λ x. stage_after x e) come.stage_is ∙ sym (stage-more start (listed h) e) ∙ ap (stage_at start) (sym same);
+        orderly = subst R (sym said.moved) (subst O (sym p) last.1);
       }
 
-  pub come-fault : (f : RigFault) → NextSaid at (Some (Err f)) after → LinesRead start lines (listed h) (Some f)
-  come-fault f (l, next, r, moved) =
+  come-fault : (f : RigFault) → LineSaid at (Err f) after → LinesRead start lines (listed h) (Some f)
+  come-fault f said =
       let P : List Piece → Type 0 = λ x. LinesRead start x (listed h) (Some f) in
-      subst P (sym (come.are ∙ ap (λ x. come.done ++ x) next)) (read-fault start come.done (listed h) l (to_come after) f come.read (here l (Err f) r))
+      subst P (sym (come.are ∙ ap (λ x. come.done ++ x) said.next)) (read-fault start come.done (listed h) said.line (to_come after) f come.read (here said.line (Err f) said.read))
 
-pub come-short : (lines : List Piece) (at : Entries) (h g : Held) → Come lines at h → g ≡ h → LinesRead start (take (length (listed g)) lines) (listed g) None
+come-short : (lines : List Piece) (at : Entries) (h g : Held) → Come lines at h → g ≡ h → LinesRead start (take (length (listed g)) lines) (listed g) None
 come-short lines at h g come e =
     let P : Held → Type 0 = λ x. LinesRead start (take (length (listed x)) lines) (listed x) None in
     let Q : List Piece → Type 0 = λ x. LinesRead start x (listed h) None in
     let front : take (length (listed h)) lines ≡ come.done = ap (take (length (listed h))) come.are ∙ take_at come.done (to_come at) (length (listed h)) (as_many start come.done (listed h) come.read) in
     subst P (sym e) (subst Q (sym front) come.read)
+
+-- where the loop stops at a fault, and where memory runs out
+pub ends-fault : (lines : List Piece) (at after : Entries) (h : Held) (f : RigFault) (q : Result (Unit {0}) ReadError) → Come lines at h → LineSaid at (Err f) after → IsErrAnd q (λ y. y ≡ error.Fault f) → Ends lines (listed h) q
+ends-fault lines at after h f q come said is =
+    let p = err_from_is_err_and q is in
+    rw (p.1, p.2) (come-fault lines at after h come f said)
+
+pub ends-memory : (lines : List Piece) (at : Entries) (h g : Held) (e : AllocError) (q : Result (Unit {0}) ReadError) → Come lines at h → g ≡ h → IsErrAnd q (λ y. y ≡ error.NoMemory e) → Ends lines (listed g) q
+ends-memory lines at h g e q come same is =
+    let p = err_from_is_err_and q is in
+    rw (p.1, p.2) (come-short lines at h g come same)
 
 -- the whole text
 
@@ -142,11 +155,16 @@ text-ends text es (Ok _) (some, short) h = lined es None some short h
 text-ends text es (Err (error.Fault f)) (some, short) h = lined es (Some f) some short h
 text-ends text es (Err (error.NoMemory e)) (some, short) h = h
 
-pub text-unsized : (text : List ℕ) (f : RigFault) (h : Held) → h ≡ nothing → Sized text (Err f) → Read text (listed h) (Err (error.Fault f))
-text-unsized text f h e s =
-    let P : List Entry → Type 0 = λ x. TextSays text x (Some f) in
+text-unsized : (text : List ℕ) (f : RigFault) → Sized text (Err f) → TextSays text [] (Some f)
+text-unsized text f s =
     let Q : RigFault → Type 0 = λ x. TextSays text [] (Some x) in
-    subst P (sym (ap listed e)) (⊎_elim (λ (x : (65536 < length text) × (f ≡ in_rig.Line in_line.TooLong)). subst Q (sym x.1) (long x.0)) (λ (x : (length text ≡ 0) × (f ≡ in_rig.Line (in_line.Misplaced text_start))). subst Q (sym x.1) (empty x.0)) s)
+    ⊎_elim (λ (x : (65536 < length text) × (f ≡ in_rig.Line in_line.TooLong)). subst Q (sym x.1) (long x.0)) (λ (x : (length text ≡ 0) × (f ≡ in_rig.Line (in_line.Misplaced text_start))). subst Q (sym x.1) (empty x.0)) s
+
+pub unsized-read : (text : List ℕ) (f : RigFault) (h : Held) (q : Result (Unit {0}) ReadError) → h ≡ nothing → Sized text (Err f) → IsErrAnd q (λ y. y ≡ error.Fault f) → Read text (listed h) q
+unsized-read text f h q none s is =
+    let p = err_from_is_err_and q is in
+    let P : List Entry → Type 0 = λ x. TextSays text x (Some f) in
+    rw (p.1, p.2) (subst P (sym (ap listed none)) (text-unsized text f s))
 
 -- how many lines there are
 
@@ -172,28 +190,32 @@ pub record Counting (lines : List Piece) (at : Entries) (n : ℕ) : Type 0 where
   pub is : n ≡ length (listed kept)
   pub few : n + length (to_come at) ≤ 65536
 
-pub counting-first : (text : List ℕ) (at : Entries) → length text ≤ 65536 → to_come at ≡ lines_of_text text → at.stage ≡ start → Counting (lines_of_text text) at 0
-counting-first text at short all first =
+pub counting_first : (text : List ℕ) (at : Entries) → length text ≤ 65536 → to_come at ≡ lines_of_text text → at.stage ≡ start → Counting (lines_of_text text) at 0
+counting_first text at short all first =
     record { kept = nothing; come = come-first (lines_of_text text) at nothing all first refl; is = refl; few = omega (arith, ap length all, length-lines text_start (lines_of text), lines-many text) }
 
-pub counting-next : (lines : List Piece) (at after : Entries) (n : ℕ) (e : Entry) → Counting lines at n → NextSaid at (Some (Ok e)) after → Counting lines after (n + 1)
-counting-next lines at after n e c next =
+pub counting_next : (lines : List Piece) (at after : Entries) (n : ℕ) (e : Entry) → Counting lines at n → LineSaid at (Ok e) after → Counting lines after (n + 1)
+counting_next lines at after n e c said =
     let h = c.kept in
-    let last = put_last at.stage h e c.come.orderly next.2.0.1 in
+    let last = put_last at.stage h e c.come.orderly said.read.0.1 in
     let more : length (listed (put h e)) ≡ length (listed h) + 1 = ap length last.0 ∙ length_push (listed h) e in
     record {
       kept = put h e;
-      come = come-next lines at after h c.come e (put h e) next refl;
+      come = come_next lines at after h c.come e (put h e) said refl;
       is = omega (arith, more, c.is);
-      few = omega (arith, c.few, ap length next.1);
+      few = omega (arith, c.few, ap length said.next);
     }
 
-pub counting-fault : (lines : List Piece) (at after : Entries) (n : ℕ) (f : RigFault) → Counting lines at n → NextSaid at (Some (Err f)) after → LinesCounted lines (Err f)
-counting-fault lines at after n f c next = (listed c.kept, come-fault lines at after c.kept c.come f next)
+pub counted-fault : (lines : List Piece) (at after : Entries) (n : ℕ) (f : RigFault) (q : Result ℕ RigFault) → Counting lines at n → LineSaid at (Err f) after → IsErrAnd q (λ y. y ≡ f) → LinesCounted lines q
+counted-fault lines at after n f q c said is =
+    let p = err_from_is_err_and q is in
+    rw (p.1, p.2) (listed c.kept, come-fault lines at after c.kept c.come f said)
 
 pub text-counted : (text : List ℕ) (r : Result ℕ RigFault) → (0 < length text) × (length text ≤ 65536) → LinesCounted (lines_of_text text) r → Checked text r
 text-counted text (Ok n) (some, short) (es, h, e) = (es, lined es None some short h, e)
 text-counted text (Err f) (some, short) (es, h) = (es, lined es (Some f) some short h)
 
-pub text-unsized-counted : (text : List ℕ) (f : RigFault) → Sized text (Err f) → Checked text (Err f)
-text-unsized-counted text f s = ([], text-unsized text f nothing refl s)
+pub unsized-counted : (text : List ℕ) (f : RigFault) (q : Result ℕ RigFault) → Sized text (Err f) → IsErrAnd q (λ y. y ≡ f) → Checked text q
+unsized-counted text f q s is =
+    let p = err_from_is_err_and q is in
+    rw (p.1, p.2) ([], text-unsized text f s)

@@ -64,10 +64,17 @@ abbrev pub stage_then : Stage → Result Entry RigFault → Stage
 stage_then s (Ok e) = stage_after s e
 stage_then s (Err f) = s
 
--- the next of the lines is read, and the others are still to come; None where no line is left
+-- the next of the lines is read as this, and the others are still to come
+pub record LineSaid (before : Entries) (r : Result Entry RigFault) (after : Entries) : Type 0 where
+  pub line : Piece
+  pub next : to_come before ≡ line ∷ to_come after
+  pub read : RigRead before.stage line r
+  pub moved : after.stage ≡ stage_then before.stage r
+
+-- None where no line is left
 abbrev pub NextSaid : Entries → Option (Result Entry RigFault) → Entries → Type 0
 NextSaid before None after = (to_come before ≡ []) × (to_come after ≡ [])
-NextSaid before (Some r) after = (l : Piece) × (to_come before ≡ l ∷ to_come after) × RigRead before.stage l r × (after.stage ≡ stage_then before.stage r)
+NextSaid before (Some r) after = LineSaid before r after
 
 -- a text whose lines are read: not too long, and not empty
 abbrev pub Sized : List ℕ → Result (Unit {0}) RigFault → Type 0

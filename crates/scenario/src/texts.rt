@@ -111,6 +111,7 @@ impl Scenario {
 }
 
 // Takes in what the lines of the text say, one after another, up to the first fault.
+#[tactic(auto, using(crate::proofs::Onward::come_next))]
 fn take_lines(scenario: &mut Scenario, text: &[u8]) -> Result<(), ReadError>
     requires { held scenario.old ≡ nothing }
     ensures { Ends (lines_of_text text.now) (entries_of scenario.new) result }
@@ -145,6 +146,7 @@ pub fn read(heap: Global, text: &[u8]) -> Reading
 }
 
 // The first fault of the lines of a text, or how many lines it has.
+#[tactic(auto, using(crate::proofs::Onward::counting_first, crate::proofs::Onward::counting_next))]
 fn count_lines(text: &[u8]) -> Result<usize, RigFault>
     requires { length text.now ≤ 65536 }
     ensures { LinesCounted (lines_of_text text.now) result }

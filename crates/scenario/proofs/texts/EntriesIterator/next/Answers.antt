@@ -12,4 +12,4 @@ stays s (Err f) off = refl
 pub returns-in_default-clause-steps : goal.returns-in_default-clause-steps
 returns-in_default-clause-steps c =
     let next = c.in_ok-line.ensures.next in
-    ((c.in_ok-line.line.place, next.0), next.1, c.rig_entry-said.ensures next.0 next.2, stays _ _ c.in_default.not-Ok)
+    record { line = (c.in_ok-line.line.place, next.0); next = next.1; read = c.rig_entry-said.ensures next.0 next.2; moved = stays _ _ c.in_default.not-Ok }
