@@ -46,7 +46,7 @@ pub enum Entry {
     Call(HeadCall),
 }
 
-// The letter of a call.
+// The letter of a call. Not a call whose operands are `()`: `Read(())` says less than `Read`.
 #[derive(Clone, Copy)]
 pub enum Letter {
     Open,

@@ -1,4 +1,5 @@
 // Each layer carries the lower layer's fault whole.
+// Each `From` is written out, since contracts read what it gives.
 ghost use Rattle.std.specs.Prelude.{◌≡◌};
 ghost use Rattle.faults.specs.declared.types.LineFault.TheVariants as in_line;
 ghost use Rattle.faults.specs.declared.types.RigFault.TheVariants as in_rig;

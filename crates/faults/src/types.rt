@@ -43,7 +43,7 @@ pub enum Layer {
     Rig,
 }
 
-// A fault as it is printed.
+// A fault as it is printed: its number stands for the kind, which the enums above tell.
 #[derive(Clone, Copy)]
 pub struct Report {
     pub number: u8,

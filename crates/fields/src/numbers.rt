@@ -52,6 +52,7 @@ fn amount_of(bytes: &[u8]) -> Option<i32>
 
 impl Part<'_> {
     // The number that the part writes.
+    // Two names in place of one generic call: they tell a reader which kind of field is meant.
     pub fn number(self) -> Result<u32, FieldFault>
         ensures { FieldRead (Number self.entry.bytes.now) (BadNumber self.entry.place) result }
     {

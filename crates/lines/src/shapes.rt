@@ -43,8 +43,8 @@ pub fn shape<'a>(word: Word, mut fields: Fields<'a>) -> Option<LineParts<'a>>
             call: call_parts(letter, &mut fields)?,
         },
     };
-    match fields.next() {
-        None => Some(line),
-        Some(_) => None,
+    if fields.next().is_some() {
+        return None;
     }
+    Some(line)
 }

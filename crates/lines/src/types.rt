@@ -13,6 +13,7 @@ pub enum Stage {
 }
 
 // A line by its word, with as many fields as the word wants, each a part of the text.
+// Not one generic type with `Entry`: that would want four parameters, for numbers, amounts, boards and policies.
 #[derive(Clone, Copy)]
 pub enum LineParts<'a> {
     Rig {

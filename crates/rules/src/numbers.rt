@@ -1,4 +1,5 @@
-// The number that each answer returns.
+// The number that each answer returns. `as` takes no enum whose cases hold something, and a number says less than
+// the answer, so these are no conversions.
 ghost use Rattle.std.specs.Prelude.{◌≡◌};
 ghost use Rattle.rules.specs.Answers.{refusal_number, granted_number};
 

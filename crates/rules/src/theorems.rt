@@ -1,5 +1,5 @@
 // What is proved of the rule book, for every kind of word, every board and every policy: each theorem is the contract
-// of a function that does nothing.
+// of a function that does nothing. Board and policy stay two parameters: the rig that holds both has no calls yet.
 ghost use Rattle.rules.specs.Bounds.{BoundsAtSetUp, BoundsKept};
 ghost use Rattle.rules.specs.Example.{RepricingSheet, SoftwareSheet};
 ghost use Rattle.rules.specs.Glance.{CallLaws};

@@ -23,7 +23,8 @@ pub struct Snapshot {
     pub commits: u32,
 }
 
-// What the rig keeps of a head. Its logs stand in the slot lists.
+// What the rig keeps of a head: plain numbers, each of which stands whatever the state, as board makers compare them.
+// Its logs stand in the slot lists, which the caller lends, and only their counts here.
 #[derive(Clone, Copy)]
 pub struct Head {
     pub state: State,
@@ -51,7 +52,7 @@ pub struct Slot<W> {
     pub word: W,
 }
 
-// All that a rig keeps beside its board and its policy.
+// All that a rig keeps beside its board and its policy: plain data that can be copied, in fixed memory.
 #[derive(Clone, Copy)]
 pub struct Table {
     // the first `head_count` are in use
@@ -75,6 +76,7 @@ pub struct Caller {
 }
 
 // A granted close, with the attempts of the transaction: done, or its writes are still to be pushed.
+// Not a `Result`: neither case is a failure.
 #[derive(Clone, Copy)]
 pub enum Closing {
     Done(u32),
