@@ -1,12 +1,11 @@
 // Reading a whole text.
 ghost use Rattle.std.specs.Prelude.{◌≡◌, ℕ, ◌<◌, ◌≤◌, List, length, Decides, MatchResult};
-ghost use Rattle.lines.specs.Faults.{LineRead};
+ghost use Rattle.std.specs.Iterator.{item_count};
 ghost use Rattle.entries.specs.declared.types.Entry.TheVariants as entries;
+ghost use Rattle.lines.specs.Faults.{LineRead};
 ghost use Rattle.scenario.specs.Texts.{Allowed, RigRead, TextOnce, start, lines_of_text};
 ghost use Rattle.scenario.specs.Holdings.{entries_of, Read, Checked};
 ghost use Rattle.scenario.specs.Steps.{Sized, held, put, nothing, to_come, NextSaid, Ends, LinesCounted};
-ghost use Rattle.std.specs.Iterator.{item_count};
-ghost use Rattle.fields.specs.Parts.{lines_left};
 
 use crate::types::{ReadError, Reading, Scenario};
 use entries::{Entry, RigLine};
@@ -46,7 +45,7 @@ struct Entries<'a> {
 impl<'a> Entries<'a> {
     // All the lines of a text.
     fn new(text: &'a [u8]) -> Entries<'a>
-        ensures lines { lines_left result.reader ≡ lines_of_text text.now }
+        ensures lines { to_come result ≡ lines_of_text text.now }
         ensures stage { result.stage ≡ start }
     {
         Entries {
@@ -151,6 +150,7 @@ fn count_lines(text: &[u8]) -> Result<usize, RigFault>
     requires { length text.now ≤ 65536 }
     ensures { LinesCounted (lines_of_text text.now) result }
 {
+    // a `try_fold` would owe a proof that its sum fits over every run of the iterator
     let mut count = 0;
     for said in Entries::new(text) {
         said?;
