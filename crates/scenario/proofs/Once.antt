@@ -1,8 +1,6 @@
 -- A text is read in one way.
-use Rattle.std.proofs.Common.{◌≡◌, ℕ, List, [], ◌∷◌, Some, None, Ok, Err, Option, Result, sym, refl, ap, ◌∙◌, subst, arith}
+use Rattle.std.proofs.Common.{◌≡◌, List, [], ◌∷◌, Some, None, Ok, Err, Option, sym, refl, ap, ◌∙◌, subst, arith}
 use Rattle.fields.specs.Parts.{Piece}
-use Rattle.entries.specs.declared.types.RigLine.{RigLine}
-use Rattle.entries.specs.declared.types.Setting.{Setting}
 use Rattle.entries.specs.declared.types.Entry.{Entry}
 use Rattle.entries.specs.declared.types.Entry.TheVariants as entry
 use Rattle.lines.specs.declared.types.Stage.{Stage}
@@ -12,12 +10,6 @@ use Rattle.lines.proofs.Once.{says-once, line-once}
 use Rattle.faults.specs.declared.types.RigFault.{RigFault}
 use Rattle.faults.specs.declared.types.RigFault.TheVariants as in_rig
 use Rattle.scenario.specs.Texts.{Allowed, RigRead, LinesRead, start, lines_of_text, long, empty, lined, TextOnce}
-
-in-line : (f g : LineFault) → ◌≡◌ {A = Result Entry LineFault} (Err f) (Err g) → in_rig.Line f ≡ in_rig.Line g
-in-line f g e = cc
-
-not-both : (x : Setting) (r : RigLine) → entry.Set x ≡ entry.Rig r → ⊥
-not-both x r e = let z : ◌≡◌ {A = ℕ} 0 1 = cc in omega arith
 
 module _ (s : Stage) (l : Piece) where
   apart : (e : Entry) (f : LineFault) → LineRead s l (Ok e) → LineRead s l (Err f) → ⊥
@@ -29,15 +21,15 @@ module _ (s : Stage) (l : Piece) where
   said-or-refused e (in_rig.BadRig b) (p, a) (i, (r, q, off)) = off (subst (Allowed s) (says-once l.1 e (entry.Rig r) p.0 q.0) a)
 
   refused-once : (f g : RigFault) → RigRead s l (Err f) → RigRead s l (Err g) → f ≡ g
-  refused-once (in_rig.Line f) (in_rig.Line g) p q = in-line f g (line-once s l (Err f) (Err g) p q)
+  refused-once (in_rig.Line f) (in_rig.Line g) p q = cc (line-once s l (Err f) (Err g) p q)
   refused-once (in_rig.Line f) (in_rig.NoSuchCell b) p (i, (x, q, off)) = absurd (apart (entry.Set x) f q p)
   refused-once (in_rig.Line f) (in_rig.BadRig b) p (i, (r, q, off)) = absurd (apart (entry.Rig r) f q p)
   refused-once (in_rig.NoSuchCell b) (in_rig.Line f) (i, (x, q, off)) p = absurd (apart (entry.Set x) f q p)
   refused-once (in_rig.BadRig b) (in_rig.Line f) (i, (r, q, off)) p = absurd (apart (entry.Rig r) f q p)
   refused-once (in_rig.NoSuchCell b) (in_rig.NoSuchCell c) (i, x) (j, y) = ap (λ n. in_rig.NoSuchCell n) (i ∙ sym j)
   refused-once (in_rig.BadRig b) (in_rig.BadRig c) (i, x) (j, y) = ap (λ n. in_rig.BadRig n) (i ∙ sym j)
-  refused-once (in_rig.NoSuchCell b) (in_rig.BadRig c) (i, (x, q, off)) (j, (r, p, no-rig)) = absurd (not-both x r (says-once l.1 (entry.Set x) (entry.Rig r) q.0 p.0))
-  refused-once (in_rig.BadRig b) (in_rig.NoSuchCell c) (j, (r, p, no-rig)) (i, (x, q, off)) = absurd (not-both x r (says-once l.1 (entry.Set x) (entry.Rig r) q.0 p.0))
+  refused-once (in_rig.NoSuchCell b) (in_rig.BadRig c) (i, (x, q, off)) (j, (r, p, no-rig)) = absurd (cc (says-once l.1 (entry.Set x) (entry.Rig r) q.0 p.0))
+  refused-once (in_rig.BadRig b) (in_rig.NoSuchCell c) (j, (r, p, no-rig)) (i, (x, q, off)) = absurd (cc (says-once l.1 (entry.Set x) (entry.Rig r) q.0 p.0))
 
 lines-once : (s : Stage) (ls : List Piece) (es ds : List Entry) (f g : Option RigFault) → LinesRead s ls es f → LinesRead s ls ds g → (es ≡ ds) × (f ≡ g)
 lines-once s [] [] [] None None x y = (refl, refl)

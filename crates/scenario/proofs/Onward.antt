@@ -12,7 +12,6 @@ use Rattle.entries.specs.declared.types.Entry.{Entry}
 use Rattle.entries.specs.declared.types.Entry.TheVariants as entry
 use Rattle.lines.specs.declared.types.Stage.{Stage}
 use Rattle.lines.specs.declared.types.Stage.TheVariants as stage
-use Rattle.entries.specs.declared.types.Word.TheVariants as word
 use Rattle.faults.specs.declared.types.LineFault.TheVariants as in_line
 use Rattle.entries.specs.Rendering.{word_of}
 use Rattle.lines.specs.Faults.{Placed, stage_after}
@@ -44,16 +43,10 @@ calls-end rig ss ks k =
     ∙ ap (λ l. rig_line rig ++ l) (sym (append_assoc ms ns (entry.Call k ∷ [])))
     ∙ sym (append_assoc (rig_line rig) (ms ++ ns) (entry.Call k ∷ []))
 
-set-is-no-rig : word.Set ≡ word.Rig → ⊥
-set-is-no-rig e = let z : ◌≡◌ {A = ℕ} 0 1 = cc in omega arith
-
-call-is-no-rig : (k : HeadCall) → word_of (entry.Call k) ≡ word.Rig → ⊥
-call-is-no-rig k e = let z : ◌≡◌ {A = ℕ} 0 1 = cc in omega arith
-
 pub put_last : (s : Stage) (h : Held) (e : Entry) → Orderly s h → Placed s (word_of e) → (listed (put h e) ≡ listed h ++ (e ∷ [])) × Orderly (stage_after s e) (put h e)
 put_last stage.Start h (entry.Rig r) o p = (ap (λ x. listed (put x (entry.Rig r))) o ∙ sym (ap (λ x. listed x ++ (entry.Rig r ∷ [])) o), ap (λ (x : Held). x.calls) o)
-put_last stage.Start h (entry.Set x) o p = absurd (set-is-no-rig p)
-put_last stage.Start h (entry.Call k) o p = absurd (call-is-no-rig k p)
+put_last stage.Start h (entry.Set x) o p = absurd (cc)
+put_last stage.Start h (entry.Call k) o p = absurd (cc)
 put_last (stage.Settings n) h (entry.Rig r) o p = absurd (p refl)
 put_last (stage.Settings n) h (entry.Set x) o p = (settings-end h.rig h.settings h.calls x o, o)
 put_last (stage.Settings n) h (entry.Call k) o p = (calls-end h.rig h.settings h.calls k, tt)

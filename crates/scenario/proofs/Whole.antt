@@ -1,5 +1,5 @@
 -- A text says a scenario to its end exactly when it is a text of that scenario.
-use Rattle.std.proofs.Common.{◌≡◌, ℕ, suc, ◌<◌, ◌≤◌, eqb, ◌⊎◌, List, [], ◌∷◌, ◌++◌, map, length, Some, None, Ok, Option, Result, sym, refl, ap, ◌∙◌, subst, inl, inr, ⊎_elim, arith, length-append}
+use Rattle.std.proofs.Common.{◌≡◌, ℕ, suc, ◌<◌, ◌≤◌, eqb, ◌⊎◌, List, [], ◌∷◌, ◌++◌, map, length, None, Ok, Option, Result, sym, refl, ap, ◌∙◌, subst, inl, inr, ⊎_elim, arith, length-append}
 use Rattle.std.specs.List.{AllByRecursion, join_with_byte}
 use Rattle.std.proofs.lemmas.List.{append_cancel_right}
 use Rattle.std.proofs.lemmas.Bool.{cond_both}
@@ -80,9 +80,6 @@ lines-text text some =
 
 -- the law
 
-no-fault : (f : RigFault) → ◌≡◌ {A = Option RigFault} (Some f) None → ⊥
-no-fault f e = let z : ◌≡◌ {A = ℕ} 0 1 = cc in omega arith
-
 some-entry : (s : Stage) (ls : List Piece) (es : List Entry) → 0 < length ls → LinesRead s ls es None → 0 < length es
 some-entry s [] es some h = absurd (omega arith)
 some-entry s (l ∷ ls) [] some h = absurd h
@@ -99,8 +96,8 @@ some-line (x ∷ xs) some =
     onto-some (l ∷ ls) = omega arith
 
 said-whole : (text : List ℕ) (es : List Entry) (fault : Option RigFault) → fault ≡ None → TextSays text es fault → Whole text es
-said-whole text _ _ e (long h) = absurd (no-fault _ e)
-said-whole text _ _ e (empty h) = absurd (no-fault _ e)
+said-whole text _ _ e (long h) = absurd (cc)
+said-whole text _ _ e (empty h) = absurd (cc)
 said-whole text _ _ e (lined es fault some short h) =
     let P : Option RigFault → Type 0 = λ x. LinesRead start (lines_from text_start (lines_of text)) es x in
     let g : P None = subst P e h in
