@@ -80,11 +80,11 @@ fn sized(text: &[u8]) -> Result<(), RigFault>
     ensures { Sized text.now result }
 {
     if text.len() > LONGEST {
-        return Err(RigFault::Line(LineFault::TooLong));
+        return Err(LineFault::TooLong.into());
     }
     if text.is_empty() {
         let start = Place { line: 1, byte: 0 };
-        return Err(RigFault::Line(LineFault::Misplaced(start)));
+        return Err(LineFault::Misplaced(start).into());
     }
     Ok(())
 }
