@@ -1,4 +1,4 @@
-// The text of what a line says.
+// The text of what a line says. Each enum of words has a match of its own: the words are all that they differ in.
 ghost use Rattle.std.specs.Prelude.{Some};
 ghost use Rattle.entries.specs.declared.types.Entry.TheVariants as entry;
 ghost use Rattle.entries.specs.Rendering.{board_text, policy_text, line_text};

@@ -24,7 +24,7 @@ pub struct RigLine {
     pub policy: PolicyName,
 }
 
-// A cell's amount before the first call.
+// A cell's amount before the first call. Not a slot of a log, which holds a word of any kind.
 #[derive(Clone, Copy)]
 pub struct Setting {
     pub cell: u32,

@@ -1,4 +1,4 @@
-// The words of the format, read from bytes.
+// The words of the format, read from bytes. Each enum has a match of its own: the words are all that they differ in.
 ghost use Rattle.entries.specs.Rendering.{Named, board_text, policy_text, word_text};
 
 use crate::types::{BoardName, Letter, PolicyName, UnknownWord, Word};

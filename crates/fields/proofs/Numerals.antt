@@ -4,9 +4,8 @@ use Rattle.std.specs.Option.{SomeIff}
 use Rattle.std.specs.Result.{OkIff, result_ok}
 use Rattle.std.specs.Str.Parse.{digits_value, ParsesUnsigned}
 use Rattle.std.proofs.lemmas.Str.{IsUtf8-from_ascii}
-use Rattle.std.proofs.Common.{◌≡◌, ℕ, suc, ◌-◌, ◌^◌, ◌<◌, ◌≤◌, true, List, [], ◌∷◌, length, get_or, take, drop, Result, Ok, Err, ◌≢◌, FitsSigned, MatchResult, subst, w32, ℤ, pos, negsuc, Some, None, decimal, Option, sym, refl, ap, ◌∙◌, ⊎_elim, arith}
+use Rattle.std.proofs.Common.{◌≡◌, ℕ, suc, ◌-◌, ◌^◌, ◌<◌, ◌≤◌, true, List, [], ◌∷◌, length, get_or, Result, Ok, Err, ◌≢◌, FitsSigned, MatchResult, subst, w32, ℤ, pos, negsuc, Some, None, decimal, Option, sym, refl, ap, ◌∙◌, ⊎_elim, arith}
 use Rattle.std.specs.Str.{all_ascii_digits, IsUtf8}
-use Rattle.std.proofs.lemmas.List.{take_all}
 use Rattle.std.proofs.lemmas.Bool.{leb-true, and_parts, cases_eq}
 use Rattle.std.proofs.lemmas.Str.Parse.{IsNumeralModel, numerals_by_value, tells_all_ascii_digits, parse_plain}
 use Rattle.std.proofs.lemmas.Fmt.{decimal-digits_value, digits_decimal, digits_value-decimal, decimal_nonempty, first_decimal, decimal_digit, decimal_injective, IsAscii-decimal}
@@ -87,12 +86,3 @@ module _ (bs ds : List ℕ) (e : bs ≡ 45 ∷ ds) where
 pub plain-some : {E : Type 0} (bs ds : List ℕ) (n : ℕ) (r : Result ℤ E) → (ds ≡ bs) × (get_or bs 0 0 ≡ 45 → ⊥) → Number ds n → OkIff r (FitsSigned w32 (pos n)) (pos n) → Reads (Amount bs) (result_ok r)
 plain-some bs ds n (Ok x) (d, e) (s, l) (fits, is) = rw is (sym d ∙ s, omega (arith, fits))
 plain-some bs ds n (Err x) (d, e) (s, l) wide = λ y a. let p = pos_of bs y e a in wide (omega (arith, same n p.0 ds s (d ∙ p.2) l (omega arith)))
-
--- what `field_of` has cut
-pub after_minus : (bs : List ℕ) → 1 ≤ length bs → get_or bs 0 0 ≡ 45 → bs ≡ 45 ∷ take (length bs - 1) (drop 1 bs)
-after_minus [] some e = absurd (omega arith)
-after_minus (b ∷ bs) some e = ap (λ x. x ∷ bs) e ∙ ap (λ l. 45 ∷ l) (sym (take_all (suc (length bs) - 1) bs (omega arith)))
-
-pub no-first : (bs : List ℕ) → (1 ≤ length bs → get_or bs 0 0 ≡ 45 → ⊥) → get_or bs 0 0 ≡ 45 → ⊥
-no-first [] h e = omega arith
-no-first (b ∷ bs) h e = h (omega arith) e

@@ -64,7 +64,7 @@ fn first_field<'a>(line: Line<'a>) -> (Part<'a>, Option<Line<'a>>)
         place,
         bytes: first,
     };
-    // not by `map`: that the rest stays within a `usize` did not close inside its closure
+    // no plainer by `map`: its closure would want clauses of its own, that the place fits and which field comes next
     let Some(rest) = rest else {
         return (field, None);
     };

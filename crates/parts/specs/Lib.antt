@@ -1,3 +1,4 @@
+pub mod Words
 pub mod Boards
 pub mod Policies
 pub mod Causes

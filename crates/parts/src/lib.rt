@@ -1,4 +1,4 @@
-// What a rig is built from: words, boards and retry policies, each as a trait with its meaning.
+// What a rig is built from: words, boards and retry policies, each as a trait with its meaning; and its eight calls.
 #![tactic(auto)]
 
 mod boards;

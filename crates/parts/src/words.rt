@@ -1,27 +1,38 @@
 // What a cell can hold.
-ghost use Rattle.std.specs.Prelude.{◌≡◌, Decides};
+ghost use Rattle.std.specs.Prelude.{◌≡◌, Bool, Decides};
+ghost use Rattle.parts.specs.Words.{same_amount, same_rate};
 ghost use Rattle.std.proofs.Common.{rules};
 
 use crate::types::Rate;
 
 // A word: it can be copied, and two of them can be told apart.
-pub trait Word: Copy + Eq {
-    // Two words are equal, by `==`, exactly when they are equal in every part.
-    ghost exact: { (x y : Self) → Decides (Self.eq x y) (x ≡ y) };
+pub trait Word: Copy {
+    ghost alike: { Self → Self → Bool };
 
-    final fn same(self, other: Self) -> bool
-        ensures computed { result ≡ Self.eq self other }
-        ensures exactly { Decides result (self ≡ other) }
-    {
+    fn same(self, other: Self) -> bool
+        ensures { result ≡ alike self other };
+
+    // Two words are the same exactly when they are equal in every part.
+    ghost exact: { (x y : Self) → Decides (alike x y) (x ≡ y) };
+}
+
+// An amount is a signed number of 32 bits. Each kind of word says by itself what sameness means, in one line.
+impl Word for i32 {
+    ghost alike = { same_amount };
+
+    ghost exact = { Prim.search rules };
+
+    fn same(self, other: i32) -> bool {
         self == other
     }
 }
 
-// An amount is a signed number of 32 bits.
-impl Word for i32 {
-    ghost exact = { Prim.search rules };
-}
-
 impl Word for Rate {
+    ghost alike = { same_rate };
+
     ghost exact = { Prim.search rules };
+
+    fn same(self, other: Rate) -> bool {
+        self == other
+    }
 }

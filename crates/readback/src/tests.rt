@@ -1,4 +1,5 @@
 // Whole and spoiled texts, with what is told of them.
+use entries::{Entry, Setting};
 use scenario::readback;
 use std::alloc::Global;
 use std::process::Abort;
@@ -208,4 +209,24 @@ fn longest_text(rt: HostRuntime) -> Result<(), Fail> {
     assert!(rt; out.as_str().ends_with("o\t0\nwhole\t16380\n"));
     text.push(b'\n')?;
     told(&rt, heap, &text, "fault\t25\t0\t65536\tline\n")
+}
+
+// What a text says, rendered; and one entry by itself.
+#[test]
+fn rendered(rt: HostRuntime) -> Result<(), Fail> {
+    let heap = rt.alloc();
+    let reading = scenario::read(heap, b"rig\t1\t2\tlines\nset\t1\t-5\nw\t0\t1\t7");
+    assert!(rt; reading.end.is_ok());
+    let text = reading.scenario.render(heap)?;
+    assert_eq!(rt;
+        text.as_str(),
+        "rig\t1\t2\tlines\tplain\nset\t1\t-5\nw\t0\t1\t7\n"
+    );
+    let setting = Setting {
+        cell: 1,
+        amount: -5,
+    };
+    let line = format!(in heap; "{}", Entry::Set(setting))?;
+    assert_eq!(rt; line.as_str(), "set\t1\t-5");
+    Ok(())
 }

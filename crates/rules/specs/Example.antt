@@ -1,6 +1,6 @@
 -- Runs computed by the rule book: two heads and two cells, on the lines board under a margin, with the plain policy.
 use Rattle.std.specs.Prelude.{◌≡◌, ℕ, List, [], ◌∷◌, map, replicate, ℤ, pos, Some, None, Ok, Err, Option}
-use Rattle.std.specs.Ordering.{int_eq}
+use Rattle.parts.specs.Words.{same_amount}
 use Rattle.parts.specs.Boards.{lines_line, lines_fit, with_margin}
 use Rattle.parts.specs.Policies.{plain_mode}
 use Rattle.parts.specs.declared.calls.Call.{Call}
@@ -16,7 +16,7 @@ use Rattle.rules.specs.Answers.{Answer, answer_number, granted_value, refusal_va
 use Rattle.rules.specs.Runs.{answers_of, left_by}
 
 abbrev pub lines_plain : Kit ℤ
-lines_plain = record { same = int_eq; line = lines_line; fits = with_margin lines_fit; next = plain_mode; patience = 3 }
+lines_plain = record { same = same_amount; line = lines_line; fits = with_margin lines_fit; next = plain_mode; patience = 3 }
 
 abbrev pub by_head : ℕ → Call ℕ ℤ → Made ℤ
 by_head k call = record { lent = lent.Right; caller = by_number k; call = call }

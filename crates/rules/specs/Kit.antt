@@ -1,6 +1,6 @@
 -- What a rig is over: a kind of word, a board and a policy.
 use Rattle.std.specs.Prelude.{◌≡◌, ℕ, ◌≤◌, Bool, Decides}
-use Rattle.std.specs.declared.cmp.PartialEq.{Ghosts as Equality}
+use Rattle.parts.specs.declared.words.Word.{Ghosts as Words}
 use Rattle.parts.specs.declared.boards.Board.{Ghosts as Boards}
 use Rattle.parts.specs.declared.policies.Policy.{Ghosts as Policies}
 use Rattle.parts.specs.declared.types.Cause.{Cause}
@@ -16,9 +16,9 @@ pub record Kit (W : Type 0) : Type 0 where
   pub patience : ℕ
 
 -- by what a kind of word, a kind of board and a kind of policy mean, for one board and one policy
-abbrev pub kit_of : {W B P : Type 0} → Equality W → Boards B → Policies P → B → P → Kit W
+abbrev pub kit_of : {W B P : Type 0} → Words W → Boards B → Policies P → B → P → Kit W
 kit_of words boards policies board policy = record {
-  same = words.eq;
+  same = words.alike;
   line = boards.lined board;
   fits = boards.fitting board;
   next = policies.answer policy;

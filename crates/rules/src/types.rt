@@ -23,7 +23,7 @@ pub struct Snapshot {
     pub commits: u32,
 }
 
-// What the rig keeps of a head: plain numbers, each of which stands whatever the state, as board makers compare them.
+// What the rig keeps of a head: plain numbers, each of which the rules keep whatever the state.
 // Its logs stand in the slot lists, which the caller lends, and only their counts here.
 #[derive(Clone, Copy)]
 pub struct Head {

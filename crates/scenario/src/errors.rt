@@ -1,4 +1,4 @@
-// Why a reading ended before the text did.
+// Why a reading ended before the text did. Each `From` is written out, since contracts read what it gives.
 ghost use Rattle.std.specs.Prelude.{◌≡◌};
 ghost use Rattle.scenario.specs.declared.types.ReadError.TheVariants as error;
 

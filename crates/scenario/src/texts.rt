@@ -121,7 +121,7 @@ fn take_lines(scenario: &mut Scenario, text: &[u8]) -> Result<(), ReadError>
     Ok(())
 }
 
-// Takes in what the text says, after a look at its size.
+// Takes in what the text says, after a look at its size. `check` looks at it as well: one `?` is all that they share.
 fn take_text(scenario: &mut Scenario, text: &[u8]) -> Result<(), ReadError>
     requires { held scenario.old ≡ nothing }
     ensures { Read text.now (entries_of scenario.new) result }
@@ -150,7 +150,7 @@ fn count_lines(text: &[u8]) -> Result<usize, RigFault>
     requires { length text.now ≤ 65536 }
     ensures { LinesCounted (lines_of_text text.now) result }
 {
-    // a `try_fold` would owe a proof that its sum fits over every run of the iterator
+    // no plainer by `try_fold`, which would owe a proof that its sum fits over every run of the iterator
     let mut count = 0;
     for said in Entries::new(text) {
         said?;
