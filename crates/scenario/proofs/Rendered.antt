@@ -1,6 +1,7 @@
 -- Writing the text of a scenario, line after line.
 use Rattle.std.proofs.Common.{◌≡◌, ℕ, ◌+◌, ◌<◌, ◌≤◌, List, [], ◌∷◌, ◌++◌, map, length, get_or, take, Some, None, Ok, Option, MatchOption, is_some, IsSome, IsOk, Result, sym, refl, ap, ◌∙◌, subst, append_assoc}
 use Rattle.std.proofs.Output.{writes_in_calls_nil, has_written_append, has_written_of_eq}
+use Rattle.std.specs.Option.{unwrap_or}
 use Rattle.std.specs.Fmt.{IsPlainFormatter, HasWritten, DisplaysOnOk, with_newline}
 use Rattle.std.specs.declared.fmt.Formatter.{Formatter}
 use Rattle.std.specs.declared.fmt.Error.{Error}
@@ -14,7 +15,7 @@ use Rattle.entries.specs.declared.types.Entry.TheVariants as entry
 use Rattle.entries.specs.Rendering.{line_text}
 use Rattle.scenario.specs.Holdings.{rig_line, in_order}
 use Rattle.scenario.specs.Laws.{scenario_text}
-use Rattle.scenario.specs.Steps.{shown, WritesLines}
+use Rattle.scenario.specs.Steps.{WritesLines}
 
 ended-append : (ls ms : List (List ℕ)) → ended 10 (ls ++ ms) ≡ ended 10 ls ++ ended 10 ms
 ended-append [] ms = refl
@@ -28,6 +29,7 @@ line-more text xs i x low is =
     ∙ ap (ended 10) (sym (map-append text (take i xs) (get_or xs i x ∷ [])))
     ∙ ap (λ l. ended 10 (map text l)) (sym (take_more xs i x low))
 
+-- the loop of `write_lines`: before it, after one turn, and at its end
 pub no_lines : {W X : Type 0} (took : W → List ℕ → W → Type 0) (output : X → Option (List ℕ)) (f : Formatter W) → WritesLines took output f [] (Ok tt) f
 no_lines took output f = record { wrote = λ shows plain ok. record { wrote = writes_in_calls_nil took _; plain = plain } }
 
@@ -36,12 +38,12 @@ pub line_written : {W X : Type 0} (took : W → List ℕ → W → Type 0) (outp
 line_written took output f g h r xs i x before line went low is = record {
   wrote = λ shows plain ok.
       let so_far = before.wrote shows plain ok in
-      has_written_of_eq took _ _ _ _ (line-more (λ y. shown (output y)) xs i x low is) (has_written_append took _ _ _ _ _ so_far (of_shown so_far.plain (output x) (shows x) line));
+      has_written_of_eq took _ _ _ _ (line-more (λ y. unwrap_or (output y) []) xs i x low is) (has_written_append took _ _ _ _ _ so_far (of_text so_far.plain (output x) (shows x) line));
 }
   where
-    of_shown : IsPlainFormatter g → (o : Option (List ℕ)) → IsSome o → DisplaysOnOk took g r (with_newline o) h → HasWritten took g (shown o ++ (10 ∷ [])) h
-    of_shown plain None some said = cc
-    of_shown plain (Some text) some said = said plain went
+    of_text : IsPlainFormatter g → (o : Option (List ℕ)) → IsSome o → DisplaysOnOk took g r (with_newline o) h → HasWritten took g (unwrap_or o [] ++ (10 ∷ [])) h
+    of_text plain None some said = cc
+    of_text plain (Some text) some said = said plain went
 
 pub lines_written : {W X : Type 0} (took : W → List ℕ → W → Type 0) (output : X → Option (List ℕ)) (f g : Formatter W) (xs : List X) (i : ℕ) → WritesLines took output f (take i xs) (Ok tt) g → length xs ≤ i → WritesLines took output f xs (Ok tt) g
 lines_written took output f g xs i before high = let P : List _ → Type 0 = λ l. WritesLines took output f l (Ok tt) g in subst P (take_all i xs high) before
@@ -62,6 +64,7 @@ all-written rig rigs ss ts ks js one p q =
     let d = ap (λ l. scenario_text (map entry.Call l)) q in
     rw (text-append (rig_line rig) (map entry.Set ss ++ map entry.Call ks), text-append (map entry.Set ss) (map entry.Call ks)) (λ i. a i ++ (b i ++ d i))
 
+-- the text of each x is that of its entry
 abbrev Prints : {X : Type 0} → (X → Entry) → (X → Option (List ℕ)) → Type 0
 Prints {X} said output = (x : X) → output x ≡ Some (line_text (said x))
 
@@ -70,10 +73,11 @@ kind-written : {W X : Type 0} (took : W → List ℕ → W → Type 0) (said : X
 kind-written took said output f g xs r lines prints plain ok =
     has_written_of_eq took _ _ _ _ (texts xs) (lines.wrote (λ x. ap is_some (prints x)) plain ok)
   where
-    texts : (ys : List _) → ended 10 (map (λ y. shown (output y)) ys) ≡ scenario_text (map said ys)
+    texts : (ys : List _) → ended 10 (map (λ y. unwrap_or (output y) []) ys) ≡ scenario_text (map said ys)
     texts [] = refl
-    texts (y ∷ ys) = (λ i. shown (prints y i) ++ (10 ∷ texts ys i))
+    texts (y ∷ ys) = (λ i. unwrap_or (prints y i) [] ++ (10 ∷ texts ys i))
 
+-- a scenario is written
 pub three_written : {W : Type 0} (took : W → List ℕ → W → Type 0) (e f g h : Formatter W) (rig : Option RigLine) (rigs : List RigLine) (ss ts : List Setting) (ks js : List HeadCall) (a b d : Result (Unit {0}) Error)
     (p : RigLine → Option (List ℕ)) (q : Setting → Option (List ℕ)) (r : HeadCall → Option (List ℕ))
     → WritesLines took p e rigs a f → WritesLines took q f ts b g → WritesLines took r g js d h

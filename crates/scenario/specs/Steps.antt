@@ -1,5 +1,6 @@
 -- Words for the steps of reading a scenario.
 use Rattle.std.specs.Prelude.{◌≡◌, ℕ, ◌<◌, ◌≤◌, ◌⊎◌, List, [], ◌∷◌, ◌++◌, map, length, take, IsSome, IsOk, Some, None, Ok, Err, vec_items, Option, Result}
+use Rattle.std.specs.Option.{unwrap_or}
 use Rattle.std.specs.Fmt.{IsPlainFormatter, HasWritten}
 use Rattle.std.specs.declared.fmt.Error.{Error}
 use Rattle.std.specs.declared.fmt.Formatter.{Formatter}
@@ -98,11 +99,6 @@ Told es (Ok _) out = out ≡ scenario_text es ++ (ending es None ++ (10 ∷ []))
 Told es (Err (error.Fault f)) out = out ≡ scenario_text es ++ (ending es (Some f) ++ (10 ∷ []))
 Told es (Err (error.NoMemory e)) out = ⊥
 
--- the text of a value whose type states it
-abbrev pub shown : Option (List ℕ) → List ℕ
-shown None = []
-shown (Some text) = text
-
 -- after a write that is `Ok`, each item is written with a newline (byte 10) after it, if all have a text
 pub record WritesLines {W X : Type 0} (took : W → List ℕ → W → Type 0) (output : X → Option (List ℕ)) (before : Formatter W) (items : List X) (r : Result (Unit {0}) Error) (after : Formatter W) : Type 0 where
-  pub wrote : ((x : X) → IsSome (output x)) → IsPlainFormatter before → IsOk r → HasWritten took before (ended 10 (map (λ x. shown (output x)) items)) after
+  pub wrote : ((x : X) → IsSome (output x)) → IsPlainFormatter before → IsOk r → HasWritten took before (ended 10 (map (λ x. unwrap_or (output x) []) items)) after
