@@ -63,6 +63,7 @@ impl From<RigFault> for Report {
     }
 }
 
+// A match of its own, as for the words of the format: the words are all that these differ in.
 impl fmt::Display for Layer {
     ghost output = { λ l. Some (layer_text l) };
 

@@ -16,13 +16,12 @@ impl Stage {
     fn takes(self, w: Word) -> bool
         ensures { Decides result (Placed self w) }
     {
-        match (self, w) {
-            (Stage::Start, Word::Rig) => true,
-            (Stage::Start, _) => false,
-            (_, Word::Rig) => false,
-            (Stage::Calls, Word::Set) => false,
-            _ => true,
-        }
+        matches!(
+            (self, w),
+            (Stage::Start, Word::Rig)
+                | (Stage::Settings(_), Word::Set | Word::Call(_))
+                | (Stage::Calls, Word::Call(_))
+        )
     }
 
     // Where the line after this entry stands.

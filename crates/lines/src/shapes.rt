@@ -43,7 +43,7 @@ pub fn shape<'a>(word: Word, mut fields: Fields<'a>) -> Option<LineParts<'a>>
             call: call_parts(letter, &mut fields)?,
         },
     };
-    // no plainer by `then_some`, which would want a proof file
+    // `then_some` was tried here: its proof did not close
     if fields.next().is_some() {
         return None;
     }

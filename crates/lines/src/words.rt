@@ -1,5 +1,4 @@
 // The words of the format, as parts of a text.
-ghost use Rattle.std.specs.Prelude.{◌≡◌};
 ghost use Rattle.lines.specs.Steps.{Found, PolicyRead};
 
 use entries::{PolicyName, UnknownWord};
@@ -17,5 +16,5 @@ pub fn named<'a, W: TryFrom<&'a [u8], Error = UnknownWord>>(part: Part<'a>) -> R
 pub fn policy_of(part: Option<Part>) -> Result<PolicyName, FieldFault>
     ensures { PolicyRead part.entry result }
 {
-    part.map_or(Ok(PolicyName::Plain), |part| named(part))
+    part.map_or(Ok(PolicyName::Plain), named)
 }

@@ -123,7 +123,7 @@ each-says s (e ∷ es) (fits, here, allowed, h) = ((fits, inl refl), each-says (
 pub rendered-says : RenderedSays
 rendered-says es some lawful short = whole-said (scenario_text es) es (record { some = some; short = short; lawful = lawful; made = (map line_text es, each-says start es lawful, inl refl) })
 
--- what `readback` prints
+-- a reading to the end holds no more entries than a text has bytes
 
 pub few-held : (text : List ℕ) (es : List Entry) (end : Result (Unit {0}) ReadError) → Read text es end → end ≡ Ok tt → length es ≤ 65536
 few-held text es end h e = let P : Result (Unit {0}) ReadError → Type 0 = λ x. Read text es x in few-entries text es None (subst P e h)
