@@ -1,9 +1,9 @@
 -- The line of a cell, and which attempts fit, on each board.
 use Rattle.std.specs.Prelude.{ℕ, ◌+◌, ◌/◌, min, Bool, nat_le}
 
--- a count of 16 bits stays at 65,535 once it is there
-abbrev pub held : ℕ → ℕ
-held n = min n 65535
+-- a count of 16 bits, held at 65,535
+abbrev pub held_count : ℕ → ℕ
+held_count n = min n 65535
 
 abbrev pub stores_line : ℕ → ℕ
 stores_line cell = cell / 8
@@ -19,4 +19,4 @@ lines_fit stores lines = nat_le lines 4
 
 -- what fits under a margin is what fits below with four stores and one line more
 abbrev pub with_margin : (ℕ → ℕ → Bool) → ℕ → ℕ → Bool
-with_margin fits stores lines = fits (held (stores + 4)) (held (lines + 1))
+with_margin fits stores lines = fits (held_count (stores + 4)) (held_count (lines + 1))

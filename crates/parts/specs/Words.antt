@@ -7,20 +7,14 @@ use Rattle.parts.specs.declared.types.Rate.TheVariants.{Unset, PerKilogram, PerP
 -- negsuc n is the integer -(n + 1)
 abbrev pub same_amount : ℤ → ℤ → Bool
 same_amount (pos a) (pos b) = a == b
-same_amount (pos a) (negsuc b) = false
-same_amount (negsuc a) (pos b) = false
 same_amount (negsuc a) (negsuc b) = a == b
+same_amount a b = false
 
 abbrev pub same_prices : Prices → Prices → Bool
 same_prices p q = p.retail == q.retail && p.wholesale == q.wholesale
 
 abbrev pub same_rate : Rate → Rate → Bool
 same_rate Unset Unset = true
-same_rate Unset (PerKilogram q) = false
-same_rate Unset (PerPiece q) = false
-same_rate (PerKilogram p) Unset = false
 same_rate (PerKilogram p) (PerKilogram q) = same_prices p q
-same_rate (PerKilogram p) (PerPiece q) = false
-same_rate (PerPiece p) Unset = false
-same_rate (PerPiece p) (PerKilogram q) = false
 same_rate (PerPiece p) (PerPiece q) = same_prices p q
+same_rate a b = false

@@ -4,17 +4,17 @@ ghost use Rattle.parts.specs.Boards.{stores_line, stores_fit, lines_line, lines_
 
 // A board has two fixed meanings, and asking it changes neither.
 pub trait Board {
-    ghost lined: { Self → ℕ → ℕ };
+    ghost line: { Self → ℕ → ℕ };
 
-    ghost fitting: { Self → ℕ → ℕ → Bool };
+    ghost fits: { Self → ℕ → ℕ → Bool };
 
     // The line of a cell.
     fn line(&self, cell: u32) -> u32
-        ensures { result ≡ lined self.now cell };
+        ensures { result ≡ line self.now cell };
 
     // Whether a hardware attempt with so many stores and so many lines touched fits.
     fn fits(&self, stores: u16, lines: u16) -> bool
-        ensures { result ≡ fitting self.now stores lines };
+        ensures { result ≡ fits self.now stores lines };
 }
 
 // Eight cells to a line; at most 32 stores.
@@ -22,9 +22,9 @@ pub trait Board {
 pub struct StoresBoard;
 
 impl Board for StoresBoard {
-    ghost lined = { λ _ c. stores_line c };
+    ghost line = { λ _ c. stores_line c };
 
-    ghost fitting = { λ _ s l. stores_fit s l };
+    ghost fits = { λ _ s l. stores_fit s l };
 
     fn line(&self, cell: u32) -> u32 {
         cell / 8
@@ -41,9 +41,9 @@ impl Board for StoresBoard {
 pub struct LinesBoard;
 
 impl Board for LinesBoard {
-    ghost lined = { λ _ c. lines_line c };
+    ghost line = { λ _ c. lines_line c };
 
-    ghost fitting = { λ _ s l. lines_fit s l };
+    ghost fits = { λ _ s l. lines_fit s l };
 
     fn line(&self, cell: u32) -> u32 {
         cell / 4
@@ -61,9 +61,9 @@ pub struct Margin<B: Board> {
 }
 
 impl<B: Board> Board for Margin<B> {
-    ghost lined = { λ m c. B.Board.lined m.below c };
+    ghost line = { λ m c. B.Board.line m.below c };
 
-    ghost fitting = { λ m s l. with_margin (B.Board.fitting m.below) s l };
+    ghost fits = { λ m s l. with_margin (B.Board.fits m.below) s l };
 
     fn line(&self, cell: u32) -> u32 {
         self.below.line(cell)

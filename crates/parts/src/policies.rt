@@ -3,37 +3,37 @@ ghost use Rattle.std.specs.Prelude.{◌≡◌, ℕ, ◌≤◌};
 ghost use Rattle.parts.specs.declared.types.Cause.{Cause};
 ghost use Rattle.parts.specs.declared.types.Mode.{Mode};
 ghost use Rattle.parts.specs.declared.types.Mode.TheVariants as modes;
-ghost use Rattle.parts.specs.Policies.{hardware_below, plain_mode, careful_mode};
+ghost use Rattle.parts.specs.Policies.{software_from, plain_mode, careful_mode};
 ghost use Rattle.std.proofs.Common.{rules};
 
 use crate::types::{Cause, Mode};
 
 // A policy answers from the cause of the latest abort and the number of the transaction's hardware aborts.
 pub trait Policy {
-    ghost answer: { Self → Cause → ℕ → Mode };
+    ghost next: { Self → Cause → ℕ → Mode };
 
-    // the patience: the most hardware attempts of a transaction
-    ghost patient: { Self → ℕ };
+    // the most hardware attempts of a transaction
+    ghost patience: { Self → ℕ };
 
     fn next(&self, cause: Cause, aborts: u32) -> Mode
-        ensures { result ≡ answer self.now cause aborts };
+        ensures { result ≡ next self.now cause aborts };
 
     // From as many hardware aborts on, the answer is software.
-    ghost ends: { (p : Self) (c : Cause) (aborts : ℕ) → patient p ≤ aborts → answer p c aborts ≡ modes.Software };
+    ghost ends: { (p : Self) (c : Cause) (aborts : ℕ) → patience p ≤ aborts → next p c aborts ≡ modes.Software };
 
-    ghost some: { (p : Self) → 1 ≤ patient p };
+    ghost some: { (p : Self) → 1 ≤ patience p };
 
-    ghost most: { (p : Self) → patient p ≤ 64 };
+    ghost most: { (p : Self) → patience p ≤ 64 };
 }
 
-// In hardware while there were fewer aborts than the most.
-fn hardware_below(most: u32, aborts: u32) -> Mode
-    ensures { result ≡ hardware_below most aborts }
+// In software from the n-th abort on.
+fn software_from(n: u32, aborts: u32) -> Mode
+    ensures { result ≡ software_from n aborts }
 {
-    if aborts < most {
-        Mode::Hardware
-    } else {
+    if n <= aborts {
         Mode::Software
+    } else {
+        Mode::Hardware
     }
 }
 
@@ -42,9 +42,9 @@ fn hardware_below(most: u32, aborts: u32) -> Mode
 pub struct Plain;
 
 impl Policy for Plain {
-    ghost answer = { λ _ c aborts. plain_mode c aborts };
+    ghost next = { λ _ c aborts. plain_mode c aborts };
 
-    ghost patient = { λ _. 3 };
+    ghost patience = { λ _. 3 };
 
     ghost ends = { Prim.search rules };
 
@@ -53,7 +53,7 @@ impl Policy for Plain {
     ghost most = { Prim.search rules };
 
     fn next(&self, _cause: Cause, aborts: u32) -> Mode {
-        hardware_below(3, aborts)
+        software_from(3, aborts)
     }
 }
 
@@ -62,9 +62,9 @@ impl Policy for Plain {
 pub struct Careful;
 
 impl Policy for Careful {
-    ghost answer = { λ _ c aborts. careful_mode c aborts };
+    ghost next = { λ _ c aborts. careful_mode c aborts };
 
-    ghost patient = { λ _. 16 };
+    ghost patience = { λ _. 16 };
 
     ghost ends = { Prim.search rules };
 
@@ -73,11 +73,11 @@ impl Policy for Careful {
     ghost most = { Prim.search rules };
 
     fn next(&self, cause: Cause, aborts: u32) -> Mode {
-        let most = match cause {
+        let n = match cause {
             Cause::Conflict => 16,
             Cause::Lock | Cause::Other => 5,
             Cause::Capacity | Cause::Changed => 0,
         };
-        hardware_below(most, aborts)
+        software_from(n, aborts)
     }
 }

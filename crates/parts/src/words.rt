@@ -1,5 +1,5 @@
 // What a cell can hold.
-ghost use Rattle.std.specs.Prelude.{◌≡◌, Bool, Decides};
+ghost use Rattle.std.specs.Prelude.{◌≡◌, ◌↔◌, Bool, IsTrue};
 ghost use Rattle.parts.specs.Words.{same_amount, same_rate};
 ghost use Rattle.std.proofs.Common.{rules};
 
@@ -7,18 +7,18 @@ use crate::types::Rate;
 
 // A word: it can be copied, and two of them can be told apart.
 pub trait Word: Copy {
-    ghost alike: { Self → Self → Bool };
+    ghost same: { Self → Self → Bool };
 
     fn same(self, other: Self) -> bool
-        ensures { result ≡ alike self other };
+        ensures { result ≡ same self other };
 
     // Two words are the same exactly when they are equal in every part.
-    ghost exact: { (x y : Self) → Decides (alike x y) (x ≡ y) };
+    ghost exact: { (x y : Self) → IsTrue (same x y) ↔ (x ≡ y) };
 }
 
 // An amount is a signed number of 32 bits. Each kind of word says by itself what sameness means, in one line.
 impl Word for i32 {
-    ghost alike = { same_amount };
+    ghost same = { same_amount };
 
     ghost exact = { Prim.search rules };
 
@@ -28,7 +28,7 @@ impl Word for i32 {
 }
 
 impl Word for Rate {
-    ghost alike = { same_rate };
+    ghost same = { same_rate };
 
     ghost exact = { Prim.search rules };
 

@@ -6,13 +6,13 @@ use Rattle.parts.specs.declared.calls.Call.{Call}
 use Rattle.rules.specs.declared.types.Caller.{Caller}
 use Rattle.rules.specs.declared.types.Refusal.{Refusal}
 use Rattle.rules.specs.Bench.{Bench, head_at, is_odd}
-use Rattle.rules.specs.Refusals.{lists_fit, is_stale, is_beyond, takes, waits, lacks_slot, lacks_transaction, lacks_attempt, when, first, refusals, refusal}
+use Rattle.rules.specs.Refusals.{lists_fit, is_stale, is_beyond, takes, waits, lacks_slot, lacks_transaction, lacks_attempt, when, first_found, refusals, refusal}
 
 when-none : (b : Bool) (e : Refusal) → when b e ≡ None → b ≡ false
 when-none true e q = cc
 when-none false e q = refl
 
-first-none : (rows : List (Option Refusal)) → first rows ≡ None → AllByRecursion (λ r. r ≡ None) rows
+first-none : (rows : List (Option Refusal)) → first_found rows ≡ None → AllByRecursion (λ r. r ≡ None) rows
 first-none [] e = tt
 first-none (None ∷ rows) e = (refl, first-none rows e)
 first-none (Some x ∷ rows) e = cc

@@ -15,10 +15,10 @@ use Rattle.rules.specs.declared.types.Refusal.{Refusal}
 use Rattle.rules.specs.declared.types.Refusal.TheVariants as refuse
 use Rattle.rules.specs.Kit.{Kit}
 use Rattle.rules.specs.Heads.{new_head, is_hardware}
-use Rattle.rules.specs.Bench.{Bench, is_odd, head_at, after_loads, checked, map_at, lock_out}
-use Rattle.rules.specs.Refusals.{by_handle, by_number, lists_fit, is_beyond, takes, why_not, waits, lacks_slot, lacks_transaction, lacks_attempt, when, first, refusal}
+use Rattle.rules.specs.Bench.{Bench, is_odd, head_at, after_loads, cells_validated, map_at, lock_out}
+use Rattle.rules.specs.Refusals.{by_handle, by_number, lists_fit, is_beyond, takes, why_not, waits, lacks_slot, lacks_transaction, lacks_attempt, when, first_found, refusal}
 use Rattle.rules.specs.Calls.{Outcome}
-use Rattle.rules.specs.Answers.{Answer, answered, call_of}
+use Rattle.rules.specs.Answers.{Answer, with_answer, call_of}
 use Rattle.rules.specs.History.{is_granted}
 use Rattle.rules.specs.Glance.{RefusalsChangeNothing, WrongListsRefused, may_write, CellsChangeByCommits, OthersOnlyAbort, HandlesCallAsHeads, StaleHandlesRefused, CallLaws}
 use Rattle.rules.proofs.Basics.{wrong}
@@ -39,12 +39,12 @@ module _ {W : Type 0} (kit : Kit W) (b : Bench W) where
   stays : (k : ℕ) (call : Call ℕ W) → Stays b (granted_of kit b k call)
   stays k Open = stays-granted _ _
   stays k (Read c) =
-      by_read kit b k c (λ (o : Outcome W W). Stays b (answered granted.Word o)) (λ w. stays-granted _ _) (λ e q not-abort. refl)
+      by_read kit b k c (λ (o : Outcome W W). Stays b (with_answer granted.Word o)) (λ w. stays-granted _ _) (λ e q not-abort. refl)
       (λ _ ys p s w. stays-granted _ _) (λ ys p cause. stays-abort cause _)
   stays k (Write c w) =
-      by-write kit b k c w (λ (o : Outcome (Unit {0}) W). Stays b (answered (λ _. granted.Done) o)) (λ ys p. stays-granted _ _) (stays-abort Capacity _)
+      by-write kit b k c w (λ (o : Outcome (Unit {0}) W). Stays b (with_answer (λ _. granted.Done) o)) (λ ys p. stays-granted _ _) (stays-abort Capacity _)
   stays k Close =
-      by-close kit b k (λ (o : Outcome Closing W). Stays b (answered granted.Closed o)) (λ _. stays-granted _ _) (stays-granted _ _)
+      by-close kit b k (λ (o : Outcome Closing W). Stays b (with_answer granted.Closed o)) (λ _. stays-granted _ _) (stays-granted _ _)
       (λ _ _. stays-granted _ _) (λ ys p. stays-abort Changed _)
   stays k Push = stays-granted _ _
   stays k Jolt = stays-abort Other _
@@ -56,7 +56,7 @@ refusals-change-nothing kit b who call =
     by_call kit b who call (Stays b) (λ e _ x q not-abort. refl) (λ _. stays kit b who.head call)
 
 -- the first row that refuses is the refusal
-when-first : (t : Bool) (e : Refusal) (rows : List (Option Refusal)) → t ≡ true → first (when t e ∷ rows) ≡ Some e
+when-first : (t : Bool) (e : Refusal) (rows : List (Option Refusal)) → t ≡ true → first_found (when t e ∷ rows) ≡ Some e
 when-first true e rows q = refl
 when-first false e rows q = wrong q
 
@@ -74,7 +74,7 @@ module _ {W : Type 0} (kit : Kit W) (b : Bench W) (k : ℕ) where
   cells_stay (Write c w) e = by-write kit b k c w (λ (o : Outcome (Unit {0}) W). o.left.cells ≡ b.cells) (λ ys p. refl) refl
   cells_stay Close e =
       by-close kit b k
-      (λ (o : Outcome Closing W). (is_granted (answered granted.Closed o).0 && may_write b k Close) ≡ false → o.left.cells ≡ b.cells)
+      (λ (o : Outcome Closing W). (is_granted (with_answer granted.Closed o).0 && may_write b k Close) ≡ false → o.left.cells ≡ b.cells)
       (λ t f. absurd (both_ways (is_hardware (head_at b k).state) f t)) (λ _. refl) (λ _ _ _. refl) (λ ys p _. refl) e
   cells_stay Push e = wrong (sym e)
   cells_stay Jolt e = refl
@@ -97,7 +97,7 @@ module _ {W : Type 0} (kit : Kit W) (b : Bench W) (k : ℕ) where
       by-write kit b k c w (λ (o : Outcome (Unit {0}) W). Hit (head_at b j) (head_at o.left j)) (λ ys p. other-set ys p _ j ne) (other-alone _ j ne)
   others-hit Close j ne =
       by-close kit b k (λ (o : Outcome Closing W). Hit (head_at b j) (head_at o.left j)) (λ _. other-alone _ j ne) (other-alone _ j ne)
-      (λ _ _. other-set (map_at lock_out 0 (after_loads kit b k (checked kit b k))) (swept-lock kit b k (checked kit b k)) _ j ne)
+      (λ _ _. other-set (map_at lock_out 0 (after_loads kit b k (cells_validated kit b k))) (swept-lock kit b k (cells_validated kit b k)) _ j ne)
       (λ ys p. other-set ys p _ j ne)
   others-hit Push j ne = other-alone _ j ne
   others-hit Jolt j ne = other-alone _ j ne
@@ -128,7 +128,7 @@ call-is {W} kit b who call =
 abbrev refusal_by : {W : Type 0} → Bench W → ℕ → Call ℕ W → Bool → Bool → Bool → Option Refusal
 refusal_by b k call unfit missing stale =
     let s = (head_at b k).state in
-    first
+    first_found
     (when unfit refuse.Lists ∷ when missing refuse.NoHead ∷ when stale refuse.StaleHandle ∷ when (is_beyond b.table.cell_count call) refuse.NoCell
     ∷ when (not (takes call s)) (why_not call s) ∷ when (waits b k call && is_odd b.table.sequence) refuse.Busy ∷ when (lacks_slot b k call) refuse.Full
     ∷ when (lacks_transaction b k call) refuse.OutOfTransactions ∷ when (lacks_attempt b k call) refuse.OutOfAttempts ∷ [])

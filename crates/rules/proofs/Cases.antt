@@ -19,27 +19,28 @@ use Rattle.rules.specs.declared.types.Snapshot.{Snapshot}
 use Rattle.rules.specs.declared.types.State.TheVariants.{Idle}
 use Rattle.rules.specs.Kit.{Kit}
 use Rattle.rules.specs.Logs.{is_empty, word_for, put}
-use Rattle.rules.specs.Heads.{is_hardware, abort, become, resnap, wrote_more}
-use Rattle.rules.specs.Bench.{Bench, head_at, write_log, present, after_loads, after_store, is_valid, checked}
+use Rattle.rules.specs.Heads.{is_hardware, abort}
+use Rattle.rules.specs.Bench.{Bench, head_at, write_log, present_snapshot, after_loads, after_store, is_valid, cells_validated}
 use Rattle.rules.specs.Refusals.{refusal}
-use Rattle.rules.specs.Calls.{Outcome, refused, unless, with_word, logged_or, leaves, becomes, aborts_in, granted_open, granted_push, granted_jolt, granted_drop, granted_again, granted_read, granted_write, granted_close, noting, fits_read, hardware_read, software_read, writing, fits_write, hardware_write, hardware_close, start_write_back, software_close}
-use Rattle.rules.specs.Answers.{Answer, answered, call_of}
+use Rattle.rules.specs.Calls.{Outcome, refuses, unless, with_word, logged_or, leaves, becomes, aborts_in, granted_open, granted_push, granted_jolt, granted_drop, granted_again, granted_read, granted_write, granted_close, notes_word, fits_read, hardware_read, software_read, puts_word, fits_write, hardware_write, hardware_close, start_write_back, software_close}
+use Rattle.rules.specs.Answers.{Answer, with_answer, call_of}
+use Rattle.rules.proofs.Records.{become, resnap, wrote_more}
 use Rattle.rules.proofs.Basics.{by-option}
 use Rattle.rules.proofs.Sweeps.{Swept, swept_none, swept-loads, swept-store}
 
 -- a call that nothing refuses
 abbrev pub granted_of : {W : Type 0} → Kit W → Bench W → ℕ → Call ℕ W → Answer W × Bench W
-granted_of kit b k Open = answered granted.Begun (granted_open b k)
-granted_of kit b k (Read c) = answered granted.Word (granted_read kit b k c)
-granted_of kit b k (Write c w) = answered (λ _. granted.Done) (granted_write kit b k c w)
-granted_of kit b k Close = answered granted.Closed (granted_close kit b k)
-granted_of kit b k Push = answered granted.Left (granted_push b k)
-granted_of kit b k Jolt = answered (λ _. granted.Done) (granted_jolt b k)
-granted_of kit b k Again = answered granted.Begun (granted_again kit b k)
-granted_of kit b k Drop = answered (λ _. granted.Done) (granted_drop b k)
+granted_of kit b k Open = with_answer granted.Begun (granted_open b k)
+granted_of kit b k (Read c) = with_answer granted.Word (granted_read kit b k c)
+granted_of kit b k (Write c w) = with_answer (λ _. granted.Done) (granted_write kit b k c w)
+granted_of kit b k Close = with_answer granted.Closed (granted_close kit b k)
+granted_of kit b k Push = with_answer granted.Left (granted_push b k)
+granted_of kit b k Jolt = with_answer (λ _. granted.Done) (granted_jolt b k)
+granted_of kit b k Again = with_answer granted.Begun (granted_again kit b k)
+granted_of kit b k Drop = with_answer (λ _. granted.Done) (granted_drop b k)
 
 by-refusal : {A W : Type 0} (give : A → Granted W) (o : Option Refusal) (b : Bench W) (r : Outcome A W) (P : Answer W × Bench W → Type 0)
-    → ((e : Refusal) → o ≡ Some e → P (Err e, b)) → (o ≡ None → P (answered give r)) → P (answered give (unless o b r))
+    → ((e : Refusal) → o ≡ Some e → P (Err e, b)) → (o ≡ None → P (with_answer give r)) → P (with_answer give (unless o b r))
 by-refusal give None b r P no' yes' = yes' refl
 by-refusal give (Some e) b r P no' yes' = no' e refl
 
@@ -56,9 +57,9 @@ by_call kit b who Again P = by-refusal granted.Begun (refusal b who Again) b (gr
 by_call kit b who Drop P = by-refusal (λ _. granted.Done) (refusal b who Drop) b (granted_drop b who.head) P
 
 module _ {W : Type 0} (kit : Kit W) (b : Bench W) (k : ℕ) where
-  -- a read is answered by the write log or noted, or the attempt aborts; only where the cell is not there it is refused
-  pub by_read : (c : ℕ) (P : Outcome W W → Type 0) → ((w : W) → P (leaves b k (Ok w) b.table)) → P (refused b refuse.NoCell)
-      → (word_for c (write_log b k) ≡ None → (ys : List Head) → Swept b.table.heads ys → (s : Snapshot) (w : W) → P (noting kit b k ys (resnap s (head_at b k)) c w))
+  -- a read is with_answer by the write log or note, or the attempt aborts; only where the cell is not there it is refuses
+  pub by_read : (c : ℕ) (P : Outcome W W → Type 0) → ((w : W) → P (leaves b k (Ok w) b.table)) → P (refuses b refuse.NoCell)
+      → (word_for c (write_log b k) ≡ None → (ys : List Head) → Swept b.table.heads ys → (s : Snapshot) (w : W) → P (notes_word kit b k ys (resnap s (head_at b k)) c w))
       → ((ys : List Head) → Swept b.table.heads ys → (cause : Cause) → P (aborts_in b k ys cause (head_at b k)))
       → P (granted_read kit b k c)
   by_read c P logged none notes aborts =
@@ -76,13 +77,13 @@ module _ {W : Type 0} (kit : Kit W) (b : Bench W) (k : ℕ) where
           (λ _. notes e (after_loads kit b k (c ∷ [])) (swept-loads kit b k (c ∷ [])) (head_at b k).snapshot w)
           (λ _. aborts b.table.heads (swept_none b.table.heads) Capacity))
           (λ _. cond_both (is_valid kit b k) _ _ P
-          (λ _. notes e (after_loads kit b k (checked kit b k ++ (c ∷ []))) (swept-loads kit b k (checked kit b k ++ (c ∷ []))) (present b.table) w)
-          (λ _. aborts (after_loads kit b k (checked kit b k)) (swept-loads kit b k (checked kit b k)) Changed))
+          (λ _. notes e (after_loads kit b k (cells_validated kit b k ++ (c ∷ []))) (swept-loads kit b k (cells_validated kit b k ++ (c ∷ []))) (present_snapshot b.table) w)
+          (λ _. aborts (after_loads kit b k (cells_validated kit b k)) (swept-loads kit b k (cells_validated kit b k)) Changed))
 
   -- a write goes into the log, and the attempt may abort
   pub by-write : (c : ℕ) (w : W) (P : Outcome (Unit {0}) W → Type 0)
-      → ((ys : List Head) → Swept b.table.heads ys → P (writing kit b k (Ok tt) (put c w (write_log b k)) ys (wrote_more (length (put c w (write_log b k))) (head_at b k))))
-      → P (writing kit b k (Err (refuse.Aborted Capacity)) (put c w (write_log b k)) b.table.heads (abort Capacity (wrote_more (length (put c w (write_log b k))) (head_at b k))))
+      → ((ys : List Head) → Swept b.table.heads ys → P (puts_word kit b k (Ok tt) (put c w (write_log b k)) ys (wrote_more (length (put c w (write_log b k))) (head_at b k))))
+      → P (puts_word kit b k (Err (refuse.Aborted Capacity)) (put c w (write_log b k)) b.table.heads (abort Capacity (wrote_more (length (put c w (write_log b k))) (head_at b k))))
       → P (granted_write kit b k c w)
   by-write c w P stores aborts =
       cond_both (is_hardware (head_at b k).state) (hardware_write kit b k c log h) _ P
@@ -105,4 +106,4 @@ module _ {W : Type 0} (kit : Kit W) (b : Bench W) (k : ℕ) where
       cond_both (is_hardware (head_at b k).state) _ _ P hardware
       (λ f. cond_both (is_empty (write_log b k)) _ (software_close kit b k) P (λ _. empty)
       (λ some. cond_both (is_valid kit b k) (start_write_back kit b k) _ P (λ _. starts f some)
-      (λ _. aborts (after_loads kit b k (checked kit b k)) (swept-loads kit b k (checked kit b k)))))
+      (λ _. aborts (after_loads kit b k (cells_validated kit b k)) (swept-loads kit b k (cells_validated kit b k)))))

@@ -19,7 +19,7 @@ use Rattle.rules.specs.declared.types.State.TheVariants.{Idle, Hardware, Softwar
 use Rattle.rules.specs.Laws.{Agrees}
 use Rattle.rules.specs.Kit.{Kit, Lawful}
 use Rattle.rules.specs.Heads.{is_hardware, is_software, is_aborted}
-use Rattle.rules.specs.Bench.{Bench, hit_by_loads, is_odd, is_current, holds, is_valid, checked}
+use Rattle.rules.specs.Bench.{Bench, hit_by_loads, is_odd, is_current, holds, is_valid, cells_validated}
 use Rattle.rules.proofs.Seats.{Seat, Rig, view, seat_of, abort_seat, meets, loaded}
 use Rattle.rules.specs.History.{History, cells_after, is_other, closes_of_others}
 use Rattle.rules.proofs.Basics.{by-test, wrong}
@@ -107,7 +107,7 @@ module _ {W : Type 0} (kit : Kit W) (law : Lawful kit) (start : List W) (b : Ben
 
   -- a software head whose validation fails
   pub changed : is_software me.head.state ≡ true → is_odd m.sequence ≡ false → is_valid kit b h ≡ false
-      → Inv kit start (record { heads = set (map (loaded kit (checked kit b h)) m.heads) h (abort_seat Changed me); sequence = m.sequence; commits = m.commits; cells = m.cells }) l
+      → Inv kit start (record { heads = set (map (loaded kit (cells_validated kit b h)) m.heads) h (abort_seat Changed me); sequence = m.sequence; commits = m.commits; cells = m.cells }) l
   changed software even unsound =
       let o = inv.heads h me at in
       let s = o.software software in
@@ -115,8 +115,8 @@ module _ {W : Type 0} (kit : Kit W) (law : Lawful kit) (start : List W) (b : Ben
       let plain = going-plain me.head.state (running-going me.head.state running) in
       let budget = charged software even unsound in
       let aborts : cond (is_hardware me.head.state) (me.head.aborts + 1) me.head.aborts ≡ me.head.aborts = cond-false (is_hardware me.head.state) (me.head.aborts + 1) me.head.aborts (software-not-hardware me.head.state software) in
-      quiet_at kit start m l inv h me at (abort_seat Changed me) (loaded kit (checked kit b h)) l.pages (l.pages h) l.past l.ended
-      (struck-hit (hit_by_loads kit (checked kit b h))) (λ k ne. refl) refl
+      quiet_at kit start m l inv h me at (abort_seat Changed me) (loaded kit (cells_validated kit b h)) l.pages (l.pages h) l.past l.ended
+      (struck-hit (hit_by_loads kit (cells_validated kit b h))) (λ k ne. refl) refl
       (record {
         attempts = o.attempts;
         since = o.since;

@@ -6,8 +6,9 @@ use Rattle.parts.specs.declared.types.Mode.TheVariants as mode
 use Rattle.rules.specs.declared.types.Head.{Head}
 use Rattle.rules.specs.declared.types.Snapshot.{Snapshot}
 use Rattle.rules.specs.declared.types.State.TheVariants.{Idle, WritingBack}
-use Rattle.rules.specs.Heads.{is_hardware, is_writing_back, new_head, abort, enter, begin, become, cancel, wrote, resnap, read_more, wrote_more}
+use Rattle.rules.specs.Heads.{is_hardware, is_writing_back, new_head, abort, enter, begin}
 use Rattle.rules.specs.Bounds.{HeadBounds}
+use Rattle.rules.proofs.Records.{become, wrote, resnap, read_more, wrote_more, cancel}
 use Rattle.rules.proofs.Basics.{by-test}
 
 pub new-bounds : HeadBounds new_head

@@ -18,12 +18,13 @@ use Rattle.rules.specs.declared.types.Slot.{Slot}
 use Rattle.rules.specs.declared.types.State.{State}
 use Rattle.rules.specs.declared.types.State.TheVariants.{Idle, WritingBack}
 use Rattle.rules.specs.Kit.{Kit}
-use Rattle.rules.specs.Logs.{is_empty, put, noted, is_full, names, put_in, log_of}
-use Rattle.rules.specs.Heads.{new_head, is_idle, is_hardware, is_software, is_writing_back, abort, enter, begin, state_in, become, cancel, wrote, resnap, read_more, wrote_more}
-use Rattle.rules.specs.Bench.{Bench, head_at, head_set, read_log, write_log, present, is_odd, map_at, lock_out, after_loads, checked}
+use Rattle.rules.specs.Logs.{is_empty, put, note, is_full, names, put_in, log_of}
+use Rattle.rules.specs.Heads.{new_head, is_idle, is_hardware, is_software, is_writing_back, abort, enter, begin, state_in}
+use Rattle.rules.specs.Bench.{Bench, head_at, table_with, read_log, write_log, present_snapshot, is_odd, map_at, lock_out, after_loads, cells_validated}
 use Rattle.rules.specs.Calls.{Outcome, granted_open, granted_read, granted_write, granted_close, granted_push, granted_jolt, granted_again, granted_drop, start_write_back, in_range, new_table, again_mode, is_last}
 use Rattle.rules.specs.Answers.{Answer}
 use Rattle.rules.specs.Bounds.{HeadBounds, InBounds, SameLengths, BoundsAtSetUp, BoundsKept}
+use Rattle.rules.proofs.Records.{become, wrote, resnap, read_more, wrote_more, cancel}
 use Rattle.rules.proofs.Basics.{by-test, wrong}
 use Rattle.rules.proofs.Admitted.{Admitted, admitted}
 use Rattle.rules.proofs.Taken.{taken-busy}
@@ -93,28 +94,28 @@ module _ {W : Type 0} (kit : Kit W) (b : Bench W) (s : InBounds b.table) (k : �
   open_kept idle few =
       let n = b.table.opened + 1 in
       let old : busy h ≡ 0 = ap (λ t. cond t 0 1) idle in (
-        bounds-with b.table s k lt heads (swept_none heads) (begin mode.Hardware (present b.table) (enter n h)) (open-bounds n (present b.table) h)
+        bounds-with b.table s k lt heads (swept_none heads) (begin mode.Hardware (present_snapshot b.table) (enter n h)) (open-bounds n (present_snapshot b.table) h)
             b.table.sequence b.table.commits n (omega arith) (omega arith),
         lengths,
       )
 
   -- every other call is one of a transaction
   module _ (going : is_idle h.state ≡ false) where
-    keeps : (ys : List Head) → Swept heads ys → (x : Head) → HeadBounds x → is_idle x.state ≡ false → InBounds (head_set b k ys x)
+    keeps : (ys : List Head) → Swept heads ys → (x : Head) → HeadBounds x → is_idle x.state ≡ false → InBounds (table_with b k ys x)
     keeps ys p x px e = bounds-stay b.table s k lt ys p x px (e ∙ sym going)
 
     ends : (x : Head) → HeadBounds x → is_idle x.state ≡ true → (sequence commits : ℕ) → commits + sequence / 2 ≤ b.table.commits + b.table.sequence / 2 + 1
         → InBounds (record { heads = set heads k x; head_count = b.table.head_count; cell_count = b.table.cell_count; sequence = sequence; commits = commits; opened = b.table.opened })
     ends x px e = bounds-end b.table s k lt x px e going
 
-    aborted : (ys : List Head) → Swept heads ys → (cause : Cause) → InBounds (head_set b k ys (abort cause h))
+    aborted : (ys : List Head) → Swept heads ys → (cause : Cause) → InBounds (table_with b k ys (abort cause h))
     aborted ys p cause = keeps ys p (abort cause h) (abort-bounds h own cause) refl
 
     read_kept : (c : ℕ) → 32 * k + 32 ≤ length b.reads → (not (names c (write_log b k)) && is_full c (read_log b k)) ≡ false → Kept b (granted_read kit b k c).left
     read_kept c room slot =
         by_read kit b k c (λ (o : Outcome W W). Kept b o.left) (λ _. (s, lengths)) (s, lengths)
         (λ e ys p snap w.
-        let log = noted c w (read_log b k) in
+        let log = note c w (read_log b k) in
         let free : is_full c (read_log b k) ≡ false = sym (ap (λ t. not t && is_full c (read_log b k)) (word_none c (write_log b k) e)) ∙ slot in
         let few : length log ≤ 32 = few-noted c w (read_log b k) (omega (arith, length-log k h.reads b.reads, own.reads)) free in (
           keeps ys p (read_more (length log) (resnap snap h)) (read-bounds (resnap snap h) (resnap-bounds h own snap) (length log) few) going,
@@ -136,12 +137,12 @@ module _ {W : Type 0} (kit : Kit W) (b : Bench W) (s : InBounds b.table) (k : �
     starts : is_software h.state ≡ true → is_empty (write_log b k) ≡ false → ((is_software h.state && not (is_empty (write_log b k))) && is_odd b.table.sequence) ≡ false
         → InBounds (start_write_back kit b k).left.table
     starts software some free =
-        let x = resnap (present b.table) h in
+        let x = resnap (present_snapshot b.table) h in
         let even : is_odd b.table.sequence ≡ false =
         sym (ap (λ t. (t && not (is_empty (write_log b k))) && is_odd b.table.sequence) software ∙ ap (λ t. not t && is_odd b.table.sequence) some) ∙ free in
         let old : busy h ≡ 1 = ap (λ t. cond t 0 1) going in
-        bounds-with b.table s k lt (map_at lock_out 0 (after_loads kit b k (checked kit b k))) (swept-lock kit b k (checked kit b k)) (become WritingBack (wrote 0 x))
-        (back-bounds x (resnap-bounds h own (present b.table)) 0 (omega (arith, some-length (write_log b k) some, length-log k h.writes b.writes)))
+        bounds-with b.table s k lt (map_at lock_out 0 (after_loads kit b k (cells_validated kit b k))) (swept-lock kit b k (cells_validated kit b k)) (become WritingBack (wrote 0 x))
+        (back-bounds x (resnap-bounds h own (present_snapshot b.table)) 0 (omega (arith, some-length (write_log b k) some, length-log k h.writes b.writes)))
         (b.table.sequence + 1) b.table.commits b.table.opened s.opened (omega (arith, eqb-false (b.table.sequence % 2) 1 even))
 
     close-kept : (is_hardware h.state ≡ false → is_software h.state ≡ true)
@@ -179,7 +180,7 @@ module _ {W : Type 0} (kit : Kit W) (b : Bench W) (s : InBounds b.table) (k : �
     again_kept : h.attempts < 70_000 → Kept b (granted_again kit b k).left
     again_kept few =
         let m = again_mode kit b k in
-        (keeps heads (swept_none heads) (begin m (present b.table) h) (begin-bounds h own m (present b.table) few) (begun-busy m), lengths)
+        (keeps heads (swept_none heads) (begin m (present_snapshot b.table) h) (begin-bounds h own m (present_snapshot b.table) few) (begun-busy m), lengths)
 
     drop-kept : Kept b (granted_drop b k).left
     drop-kept = (ends (cancel h) (cancel-bounds h own) refl b.table.sequence b.table.commits (omega arith), lengths)

@@ -3,7 +3,7 @@ use Rattle.std.proofs.Common.{◌≡◌, ℕ, ◌+◌, ◌-◌, ◌*◌, ◌<◌
 use Rattle.std.proofs.lemmas.List.{length-drop, length-append, length-take-le, drop_at, take-append-le, drop-append-le, drop-drop}
 use Rattle.std.proofs.lemmas.Bool.{cases_order}
 use Rattle.rules.specs.declared.types.Slot.{Slot}
-use Rattle.rules.specs.Logs.{log_of, laid}
+use Rattle.rules.specs.Logs.{log_of, slots_with}
 
 drop-append-add : {X : Type 0} (xs ys : List X) (n : ℕ) → drop (length xs + n) (xs ++ ys) ≡ drop n ys
 drop-append-add xs ys n = sym (drop-drop n (length xs) (xs ++ ys)) ∙ ap (drop n) (drop_at xs ys (length xs) refl)
@@ -12,7 +12,7 @@ module _ {W : Type 0} (k : ℕ) (log slots : List (Slot W)) (few : length log �
   length_front : length (take (32 * k) slots) ≡ 32 * k
   length_front = length-take-le (32 * k) slots (omega arith)
 
-  pub length-laid : length (laid k log slots) ≡ length slots
+  pub length-laid : length (slots_with k log slots) ≡ length slots
   length-laid =
       let a = length-append (take (32 * k) slots) (log ++ drop (32 * k + length log) slots) in
       let b = length-append log (drop (32 * k + length log) slots) in
@@ -20,14 +20,14 @@ module _ {W : Type 0} (k : ℕ) (log slots : List (Slot W)) (few : length log �
       let d = length_front in
       omega arith
 
-  -- the head's own log, as far as it was laid
-  pub log-laid-own : (n : ℕ) → n ≤ length log → log_of k n (laid k log slots) ≡ take n log
+  -- the head's own log, as far as it was slots_with
+  pub log-laid-own : (n : ℕ) → n ≤ length log → log_of k n (slots_with k log slots) ≡ take n log
   log-laid-own n le =
       ap (take n) (drop_at (take (32 * k) slots) (log ++ drop (32 * k + length log) slots) (32 * k) length_front)
       ∙ take-append-le n log (drop (32 * k + length log) slots) le
 
   -- another's
-  pub log-laid-other : (j n : ℕ) → (j ≡ k → ⊥) → n ≤ 32 → log_of j n (laid k log slots) ≡ log_of j n slots
+  pub log-laid-other : (j n : ℕ) → (j ≡ k → ⊥) → n ≤ 32 → log_of j n (slots_with k log slots) ≡ log_of j n slots
   log-laid-other j n ne le = ⊎_elim (λ (e : j ≡ k). absurd (ne e)) (⊎_elim below above) (cases_order j k)
     where
       front : List (Slot W)
@@ -37,7 +37,7 @@ module _ {W : Type 0} (k : ℕ) (log slots : List (Slot W)) (few : length log �
       back = log ++ drop (32 * k + length log) slots
 
       -- as far as the front goes the slots are as they were
-      below : j < k → log_of j n (laid k log slots) ≡ log_of j n slots
+      below : j < k → log_of j n (slots_with k log slots) ≡ log_of j n slots
       below lt =
           let lf = length_front in
           let a : drop (32 * j) (front ++ back) ≡ drop (32 * j) front ++ back = drop-append-le (32 * j) front back (omega arith) in
@@ -47,7 +47,7 @@ module _ {W : Type 0} (k : ℕ) (log slots : List (Slot W)) (few : length log �
           ap (take n) a ∙ take-append-le n (drop (32 * j) front) back within
           ∙ sym (ap (take n) whole ∙ take-append-le n (drop (32 * j) front) (drop (32 * k) slots) within)
 
-      above : k < j → log_of j n (laid k log slots) ≡ log_of j n slots
+      above : k < j → log_of j n (slots_with k log slots) ≡ log_of j n slots
       above lt =
           let lf = length_front in
           let past = 32 * j - 32 * k in

@@ -1,4 +1,5 @@
 pub mod Basics
+pub mod Records
 pub mod Admitted
 pub mod Laid
 pub mod Taken

@@ -6,7 +6,7 @@ use Rattle.std.proofs.lemmas.Bool.{eqb-true, eqb-false, or_parts, or_cases, and_
 use Rattle.std.proofs.lemmas.List.{set-set, set_comm, length-append}
 use Rattle.std.proofs.ByRecursion.{All-append}
 use Rattle.rules.specs.declared.types.Slot.{Slot}
-use Rattle.rules.specs.Logs.{slot, is_empty, names, word_for, put, noted, is_full, put_in}
+use Rattle.rules.specs.Logs.{slot, is_empty, names, word_for, put, note, is_full, put_in}
 use Rattle.rules.specs.Kit.{Kit, Lawful}
 use Rattle.rules.specs.Bench.{Bench, holds, holds_same}
 use Rattle.rules.specs.Laws.{Agrees}
@@ -99,14 +99,14 @@ module _ {W : Type 0} where
       (λ (h : names c log ≡ true). agrees_at c log xs ys h p.1 q.1)
       (or_cases (eqb c s.cell) (names c log) e)
 
-  pub agrees-noted : (c : ℕ) (w : W) (log : List (Slot W)) (xs : List W) → slice_get xs c ≡ Some w → Agrees xs log → Agrees xs (noted c w log)
+  pub agrees-noted : (c : ℕ) (w : W) (log : List (Slot W)) (xs : List W) → slice_get xs c ≡ Some w → Agrees xs log → Agrees xs (note c w log)
   agrees-noted c w log xs here h =
       by-test (names c log) (λ b. Agrees xs (cond b log (log ++ (slot c w ∷ [])))) (λ _. h)
       (λ _. All-append (λ s. slice_get xs s.cell ≡ Some s.word) log (slot c w ∷ []) h (here, tt))
 
-  -- what agrees with the log and the word noted agrees with a record of what was read
+  -- what agrees with the log and the word note agrees with a record of what was read
   pub noted-reads : (c : ℕ) (w : W) (log rs : List (Slot W)) (cells : List W) → slice_get cells c ≡ Some w → Agrees cells log
-      → ((xs : List W) → Agrees xs log → Agrees xs rs) → (xs : List W) → Agrees xs (noted c w log) → Agrees xs (rs ++ (slot c w ∷ []))
+      → ((xs : List W) → Agrees xs log → Agrees xs rs) → (xs : List W) → Agrees xs (note c w log) → Agrees xs (rs ++ (slot c w ∷ []))
   noted-reads c w log rs cells here now old xs =
       by-test (names c log) (λ b. Agrees xs (cond b log (log ++ (slot c w ∷ []))) → Agrees xs (rs ++ (slot c w ∷ [])))
       (λ e h. All-append (λ s. slice_get xs s.cell ≡ Some s.word) rs (slot c w ∷ []) (old xs h) (agrees_at c log cells xs e now h ∙ here, tt))
@@ -115,7 +115,7 @@ module _ {W : Type 0} where
       (all-append-right (λ s. slice_get xs s.cell ≡ Some s.word) log (slot c w ∷ []) h))
 
   -- a word that has a slot or finds one free leaves at most 32
-  pub few-noted : (c : ℕ) (w : W) (log : List (Slot W)) → length log ≤ 32 → is_full c log ≡ false → length (noted c w log) ≤ 32
+  pub few-noted : (c : ℕ) (w : W) (log : List (Slot W)) → length log ≤ 32 → is_full c log ≡ false → length (note c w log) ≤ 32
   few-noted c w log le room =
       by-test (names c log) (λ b. (not b && leb 32 (length log)) ≡ false → length (cond b log (log ++ (slot c w ∷ []))) ≤ 32) (λ _ _. le)
       (λ _ e. let lt = leb-false 32 (length log) e in let n = length-append log (slot c w ∷ []) in omega arith) room
@@ -133,7 +133,7 @@ module _ {W : Type 0} where
       (λ _ e. let lt = leb-false 32 (length log) e in omega arith) room)
 
 module _ {W : Type 0} (kit : Kit W) where
-  pub meets-noted : (x c : ℕ) (w : W) (log : List (Slot W)) → meets kit x log ≡ false → eqb (kit.line x) (kit.line c) ≡ false → meets kit x (noted c w log) ≡ false
+  pub meets-noted : (x c : ℕ) (w : W) (log : List (Slot W)) → meets kit x log ≡ false → eqb (kit.line x) (kit.line c) ≡ false → meets kit x (note c w log) ≡ false
   meets-noted x c w log h e =
       by-test (names c log) (λ b. meets kit x (cond b log (log ++ (slot c w ∷ []))) ≡ false) (λ _. h)
       (λ _. list_any-append (λ s. eqb (kit.line x) (kit.line s.cell)) log (slot c w ∷ []) ∙ rw (h, e))

@@ -11,13 +11,14 @@ use Rattle.rules.specs.declared.types.Granted.TheVariants as granted
 use Rattle.rules.specs.declared.types.State.{State}
 use Rattle.rules.specs.declared.types.State.TheVariants.{Idle, Hardware, Software, Aborted, WritingBack}
 use Rattle.rules.specs.Kit.{Kit, Lawful}
-use Rattle.rules.specs.Heads.{is_idle, is_hardware, is_software, is_aborted, abort, enter, begin, next_mode, cancel}
-use Rattle.rules.specs.Bench.{Bench, head_at, present, is_odd}
+use Rattle.rules.specs.Heads.{is_idle, is_hardware, is_software, is_aborted, abort, enter, begin, next_mode}
+use Rattle.rules.specs.Bench.{Bench, head_at, present_snapshot, is_odd}
 use Rattle.rules.specs.Calls.{becomes, granted_open, granted_jolt, granted_drop, granted_again, again_mode}
-use Rattle.rules.specs.Answers.{answered}
+use Rattle.rules.specs.Answers.{with_answer}
 use Rattle.rules.specs.Bounds.{InBounds}
 use Rattle.rules.specs.History.{History, closes_of_others}
 use Rattle.rules.specs.Laws.{most_attempts}
+use Rattle.rules.proofs.Records.{cancel}
 use Rattle.rules.proofs.Basics.{wrong}
 use Rattle.rules.proofs.Admitted.{Sized}
 use Rattle.rules.proofs.Seats.{Seat, Rig, view, seat_of, meets}
@@ -38,7 +39,7 @@ module _ {W : Type 0} (kit : Kit W) (law : Lawful kit) (start : List W) (b : Ben
   at : slice_get m.heads h ≡ Some me
   at = seat-there b bounds lists h lt
 
-  pub keep-drop : (is_hardware me.head.state || (is_software me.head.state || is_aborted me.head.state)) ≡ true → Keeps kit start l h Drop (answered (λ _. granted.Done) (granted_drop b h))
+  pub keep-drop : (is_hardware me.head.state || (is_software me.head.state || is_aborted me.head.state)) ≡ true → Keeps kit start l h Drop (with_answer (λ _. granted.Done) (granted_drop b h))
   keep-drop going =
       let plain = going-plain me.head.state going in
       let o = inv.heads h me at in
@@ -57,17 +58,17 @@ module _ {W : Type 0} (kit : Kit W) (law : Lawful kit) (start : List W) (b : Ben
       plain refl (λ _. refl) (λ k it there ne hm. wrong hm) inv.past (inv.present h)
       ((inv.bound h, λ n e. cc), inv.ended) (inv.bound h))
 
-  pub keep-jolt : is_hardware me.head.state ≡ true → Keeps kit start l h Jolt (answered (λ _. granted.Done) (granted_jolt b h))
+  pub keep-jolt : is_hardware me.head.state ≡ true → Keeps kit start l h Jolt (with_answer (λ _. granted.Done) (granted_jolt b h))
   keep-jolt hardware =
       keep-alone kit start _ b bounds lists h lt b.table.sequence b.table.commits b.table.opened (abort Other (head_at b h)) b.cells b.reads b.writes (untouched b bounds lists h lt)
       (quiet_at kit start m l inv h me at _ (λ o. o) l.pages (l.pages h) l.past l.ended struck-same (λ k ne. refl) refl
       (head-aborts kit.patience start m.sequence m.commits m.cells l.closes h me (l.pages h) Other hardware (inv.heads h me at))
       (hardware-not-writing me.head.state hardware) refl (λ _. refl) (λ k it there ne hm. wrong hm) inv.past (inv.present h) inv.ended (inv.bound h))
 
-  pub keep-open : is_idle me.head.state ≡ true → is_odd m.sequence ≡ false → Keeps kit start l h Open (answered granted.Begun (granted_open b h))
+  pub keep-open : is_idle me.head.state ≡ true → is_odd m.sequence ≡ false → Keeps kit start l h Open (with_answer granted.Begun (granted_open b h))
   keep-open idle even =
       let n = length l.closes in
-      keep-alone kit start _ b bounds lists h lt b.table.sequence b.table.commits (b.table.opened + 1) (begin mode.Hardware (present b.table) (enter (b.table.opened + 1) (head_at b h)))
+      keep-alone kit start _ b bounds lists h lt b.table.sequence b.table.commits (b.table.opened + 1) (begin mode.Hardware (present_snapshot b.table) (enter (b.table.opened + 1) (head_at b h)))
       b.cells b.reads b.writes (untouched b bounds lists h lt)
       (quiet_at kit start m l inv h me at _ (λ o. o) _ _ _ l.ended struck-same
       (λ k ne. turned-other l.pages h _ k ne) (turned-here l.pages h _)
@@ -101,7 +102,7 @@ module _ {W : Type 0} (kit : Kit W) (law : Lawful kit) (start : List W) (b : Ben
   stays-hardware (Aborted Changed) e = cc
   stays-hardware WritingBack e = cc
 
-  pub keep-again : is_aborted me.head.state ≡ true → is_odd m.sequence ≡ false → Keeps kit start l h Again (answered granted.Begun (granted_again kit b h))
+  pub keep-again : is_aborted me.head.state ≡ true → is_odd m.sequence ≡ false → Keeps kit start l h Again (with_answer granted.Begun (granted_again kit b h))
   keep-again aborted even =
       let n = length l.closes in
       let o = inv.heads h me at in
@@ -109,8 +110,8 @@ module _ {W : Type 0} (kit : Kit W) (law : Lawful kit) (start : List W) (b : Ben
       let going = o.going (aborted-going me.head.state aborted) in
       let plain = going-plain me.head.state (aborted-going me.head.state aborted) in
       let bound : (l.pages h).attempts + 1 ≤ most_attempts kit.patience (closes_of_others l.closes h (l.pages h).since n) = omega (arith, down.under, down.budget, o.attempts) in
-      by_mode (again_mode kit b h) (λ d. Keeps kit start l h Again (answered granted.Begun (becomes b h (Ok d) (begin d (present b.table) (head_at b h)))))
-      (λ e. keep-alone kit start _ b bounds lists h lt b.table.sequence b.table.commits b.table.opened (begin mode.Hardware (present b.table) (head_at b h)) b.cells b.reads b.writes (untouched b bounds lists h lt)
+      by_mode (again_mode kit b h) (λ d. Keeps kit start l h Again (with_answer granted.Begun (becomes b h (Ok d) (begin d (present_snapshot b.table) (head_at b h)))))
+      (λ e. keep-alone kit start _ b bounds lists h lt b.table.sequence b.table.commits b.table.opened (begin mode.Hardware (present_snapshot b.table) (head_at b h)) b.cells b.reads b.writes (untouched b bounds lists h lt)
       (quiet_at kit start m l inv h me at _ (λ o. o) _ _ _ l.ended struck-same
       (λ k ne. turned-other l.pages h _ k ne) (turned-here l.pages h _)
       (record {
@@ -126,7 +127,7 @@ module _ {W : Type 0} (kit : Kit W) (law : Lawful kit) (start : List W) (b : Ben
       plain refl (λ o. wrong (sym even ∙ o))
       (λ k it there ne hm hi hf. (tt, all_true (λ s. meets kit s.cell [] ≡ false) (λ s. refl) it.writes))
       (inv.present h, inv.past) (n, omega arith, omega arith, tt, λ q e. cc) inv.ended bound))
-      (λ _. keep-alone kit start _ b bounds lists h lt b.table.sequence b.table.commits b.table.opened (begin mode.Software (present b.table) (head_at b h)) b.cells b.reads b.writes (untouched b bounds lists h lt)
+      (λ _. keep-alone kit start _ b bounds lists h lt b.table.sequence b.table.commits b.table.opened (begin mode.Software (present_snapshot b.table) (head_at b h)) b.cells b.reads b.writes (untouched b bounds lists h lt)
       (quiet_at kit start m l inv h me at _ (λ o. o) _ _ _ l.ended struck-same
       (λ k ne. turned-other l.pages h _ k ne) (turned-here l.pages h _)
       (record {

@@ -13,13 +13,14 @@ use Rattle.rules.specs.declared.types.Head.{Head}
 use Rattle.rules.specs.declared.types.State.TheVariants.{Idle, WritingBack}
 use Rattle.rules.specs.Kit.{Kit, Lawful}
 use Rattle.rules.specs.Logs.{is_empty, put_in}
-use Rattle.rules.specs.Heads.{is_hardware, is_software, is_aborted, is_writing_back, abort, become, wrote, resnap}
-use Rattle.rules.specs.Bench.{Bench, bench, head_at, present, is_odd, is_valid, checked, conflict, hit_by_loads, lock_out, table_with}
+use Rattle.rules.specs.Heads.{is_hardware, is_software, is_aborted, is_writing_back, abort}
+use Rattle.rules.specs.Bench.{Bench, head_at, present_snapshot, is_odd, is_valid, cells_validated, abort_if_hit, hit_by_loads, lock_out}
 use Rattle.rules.specs.Calls.{Outcome, becomes, hardware_close, software_close, granted_close}
-use Rattle.rules.specs.Answers.{answered}
+use Rattle.rules.specs.Answers.{with_answer}
 use Rattle.rules.specs.Bounds.{InBounds}
-use Rattle.rules.specs.History.{History, Commit, Ended, Page, turned, cells_after, closes_of_others}
+use Rattle.rules.specs.History.{History, Commit, Ended, Page, pages_with, cells_after, closes_of_others}
 use Rattle.rules.specs.Laws.{Agrees, Explained, Bounded, most_attempts}
+use Rattle.rules.proofs.Records.{bench, with_numbers, become, wrote, resnap}
 use Rattle.rules.proofs.Basics.{wrong, nth-set-same, nth-map-some, after-each}
 use Rattle.rules.proofs.Admitted.{Sized}
 use Rattle.rules.proofs.Seats.{Seat, Rig, view, seat_of, loaded, locked, map_at-twice}
@@ -59,7 +60,7 @@ module _ {W : Type 0} (kit : Kit W) (law : Lawful kit) (start : List W) (b : Ben
   seated x = record { head = x; reads = me.reads; writes = me.writes }
 
   abbrev Kept : Outcome Closing W → Type 0
-  Kept o = Keeps kit start l h Close (answered granted.Closed o)
+  Kept o = Keeps kit start l h Close (with_answer granted.Closed o)
 
   abbrev n : ℕ
   n = length l.closes
@@ -82,7 +83,7 @@ module _ {W : Type 0} (kit : Kit W) (law : Lawful kit) (start : List W) (b : Ben
   end told = record { head = h; since = (l.pages h).since; until = n; attempts = (l.pages h).attempts; told = Some told }
 
   abbrev l' : Bool → History W
-  l' writing = record { closes = closes'; pages = turned l.pages h (page' writing); past = l.past; ended = end me.head.attempts ∷ l.ended }
+  l' writing = record { closes = closes'; pages = pages_with l.pages h (page' writing); past = l.past; ended = end me.head.attempts ∷ l.ended }
 
   length' : length closes' ≡ n + 1
   length' = length-append l.closes (commit ∷ [])
@@ -144,7 +145,7 @@ module _ {W : Type 0} (kit : Kit W) (law : Lawful kit) (start : List W) (b : Ben
       let me' = seated (become Idle (head_at b h)) in
       keep-alone kit start _ b bounds lists h lt b.table.sequence (b.table.commits + 1) b.table.opened (become Idle (head_at b h)) (put_in me.writes b.cells) b.reads b.writes (untouched b bounds lists h lt)
       (moving kit start m l inv h me me' (λ o. o) m.sequence (m.commits + 1) (put_in me.writes m.cells) (commit ∷ []) closes'
-      (turned l.pages h (page' false)) (page' false) l.past (end me.head.attempts ∷ l.ended)
+      (pages_with l.pages h (page' false)) (page' false) l.past (end me.head.attempts ∷ l.ended)
       at struck-same (λ k ne. turned-other l.pages h _ k ne) (turned-here l.pages h _) refl other-head (omega arith) (omega arith)
       (λ k it there ne hi _. agrees-put-in kit me.writes it.reads m.cells (inv.clear h k me it at there (λ q. ne (sym q)) hardware hi) ((inv.heads k it there).hardware hi).valid)
       (λ k it there s _ e. absurd (omega (arith, s.low-C)))
@@ -168,7 +169,7 @@ module _ {W : Type 0} (kit : Kit W) (law : Lawful kit) (start : List W) (b : Ben
       after-append l.closes (commit ∷ []) start ∙ sym (linked.puts (cells_after l.closes start)) ∙ ap (λ ws. put_in ws (cells_after l.closes start)) (none-empty me.writes none) in
       keep-alone kit start _ b bounds lists h lt b.table.sequence b.table.commits b.table.opened (become Idle (head_at b h)) b.cells b.reads b.writes (untouched b bounds lists h lt)
       (moving kit start m l inv h me me' (λ o. o) m.sequence m.commits m.cells (commit ∷ []) closes'
-      (turned l.pages h (page' false)) (page' false) l.past (end me.head.attempts ∷ l.ended)
+      (pages_with l.pages h (page' false)) (page' false) l.past (end me.head.attempts ∷ l.ended)
       at struck-same (λ k ne. turned-other l.pages h _ k ne) (turned-here l.pages h _) refl other-head (omega arith) (omega arith)
       (λ k it there ne hi _. ((inv.heads k it there).hardware hi).valid)
       (λ k it there s e e'. s.valid e e')
@@ -187,27 +188,27 @@ module _ {W : Type 0} (kit : Kit W) (law : Lawful kit) (start : List W) (b : Ben
   keep-lock : is_software me.head.state ≡ true → is_empty me.writes ≡ false → is_odd m.sequence ≡ false → Kept (software_close kit b h)
   keep-lock software some even =
       let o = inv.heads h me at in
-      let x = become WritingBack (wrote 0 (resnap (present b.table) (head_at b h))) in
+      let x = become WritingBack (wrote 0 (resnap (present_snapshot b.table) (head_at b h))) in
       let me' = seated x in
-      let strike : ℕ → Head → Head = conflict b h (hit_by_loads kit (checked kit b h)) in
-      let f : Seat W → Seat W = λ o. locked (loaded kit (checked kit b h) o) in
-      let struck : (o : Seat W) → Struck o (f o) = λ o. struck-locked o (loaded kit (checked kit b h) o) (struck-hit (hit_by_loads kit (checked kit b h)) o) in
+      let strike : ℕ → Head → Head = abort_if_hit b h (hit_by_loads kit (cells_validated kit b h)) in
+      let f : Seat W → Seat W = λ o. locked (loaded kit (cells_validated kit b h) o) in
+      let struck : (o : Seat W) → Struck o (f o) = λ o. struck-locked o (loaded kit (cells_validated kit b h) o) (struck-hit (hit_by_loads kit (cells_validated kit b h)) o) in
       cond_both (is_valid kit b h) _ _ Kept
       (λ e.
-      subst (λ hs. Inv kit start (view (bench (table_with b.table (set hs h x) (b.table.sequence + 1) b.table.commits b.table.opened) b.cells b.reads b.writes)) (l' true))
+      subst (λ hs. Inv kit start (view (bench (with_numbers b.table (set hs h x) (b.table.sequence + 1) b.table.commits b.table.opened) b.cells b.reads b.writes)) (l' true))
       (sym (map_at-twice lock_out strike 0 b.table.heads))
       (keep-swept kit start _ b bounds lists h lt (b.table.sequence + 1) b.table.commits b.table.opened x b.cells b.reads b.writes
-      (λ j y. lock_out j (strike j y)) f (locks-seen b bounds lists h lt b.reads b.writes (untouched b bounds lists h lt) (hit_by_loads kit (checked kit b h)))
+      (λ j y. lock_out j (strike j y)) f (locks-seen b bounds lists h lt b.reads b.writes (untouched b bounds lists h lt) (hit_by_loads kit (cells_validated kit b h)))
       (moving kit start m l inv h me me' f (m.sequence + 1) m.commits m.cells (commit ∷ []) closes'
-      (turned l.pages h (page' true)) (page' true) l.past (end me.head.attempts ∷ l.ended)
+      (pages_with l.pages h (page' true)) (page' true) l.past (end me.head.attempts ∷ l.ended)
       at struck (λ k ne. turned-other l.pages h _ k ne) (turned-here l.pages h _) refl other-head (omega arith) (omega arith)
-      (λ k it there ne hi hf. wrong (sym (locked-not-hardware (loaded kit (checked kit b h) it)) ∙ hf))
+      (λ k it there ne hi hf. wrong (sym (locked-not-hardware (loaded kit (cells_validated kit b h) it)) ∙ hf))
       (λ k it there s q _. absurd (omega (arith, s.low-S)))
       (closed-ok (m.sequence + 1) m.commits m.cells me' true refl refl refl refl refl)
       refl
       (λ q. wrong (sym q ∙ odd-next m.sequence even))
       (λ _. record {
-        no-hardware = after-each f m.heads h me' me at (λ k x. is_hardware x.head.state ≡ false) refl (λ k y there ne. locked-not-hardware (loaded kit (checked kit b h) y));
+        no-hardware = after-each f m.heads h me' me at (λ k x. is_hardware x.head.state ≡ false) refl (λ k y there ne. locked-not-hardware (loaded kit (cells_validated kit b h) y));
         who = h;
         it = me';
         there = nth-set-same (map f m.heads) h me' (f me) (nth-map-some f m.heads h me at);
@@ -221,7 +222,7 @@ module _ {W : Type 0} (kit : Kit W) (law : Lawful kit) (start : List W) (b : Ben
       inv.past (explained-all true even (sound-valid kit law start b l inv h at software e)) (ended-ok true) bound-ok)))
       (λ e.
       keep-swept kit start l b bounds lists h lt b.table.sequence b.table.commits b.table.opened (abort Changed (head_at b h)) b.cells b.reads b.writes
-      strike (loaded kit (checked kit b h)) (conflict-seen b bounds lists h lt b.reads b.writes (untouched b bounds lists h lt) (hit_by_loads kit (checked kit b h)))
+      strike (loaded kit (cells_validated kit b h)) (conflict-seen b bounds lists h lt b.reads b.writes (untouched b bounds lists h lt) (hit_by_loads kit (cells_validated kit b h)))
       (changed kit law start b l inv h at software even e))
 
   pub keep-close : ((is_software me.head.state && not (is_empty me.writes)) && is_odd m.sequence) ≡ false → Kept (granted_close kit b h)

@@ -11,12 +11,13 @@ use Rattle.rules.specs.declared.types.Slot.{Slot}
 use Rattle.rules.specs.declared.types.State.TheVariants.{Idle, WritingBack}
 use Rattle.rules.specs.Kit.{Kit, Lawful}
 use Rattle.rules.specs.Logs.{put_in}
-use Rattle.rules.specs.Heads.{is_hardware, is_writing_back, become, wrote}
+use Rattle.rules.specs.Heads.{is_hardware, is_writing_back}
 use Rattle.rules.specs.Bench.{Bench, head_at, is_odd}
 use Rattle.rules.specs.Calls.{granted_push}
-use Rattle.rules.specs.Answers.{answered}
+use Rattle.rules.specs.Answers.{with_answer}
 use Rattle.rules.specs.Bounds.{InBounds}
-use Rattle.rules.specs.History.{History, Page, turned, cells_after}
+use Rattle.rules.specs.History.{History, Page, pages_with, cells_after}
+use Rattle.rules.proofs.Records.{become, wrote}
 use Rattle.rules.proofs.Basics.{by-test, wrong, nth-set-same, nth-map-some, after-each}
 use Rattle.rules.proofs.Admitted.{Sized}
 use Rattle.rules.proofs.Seats.{Seat, Rig, view, seat_of}
@@ -80,7 +81,7 @@ module _ {W : Type 0} (kit : Kit W) (law : Lawful kit) (start : List W) (b : Ben
   freed-page = record { attempt = (l.pages h).attempt; since = (l.pages h).since; attempts = (l.pages h).attempts; writing_back = false }
 
   abbrev freed : History W
-  freed = record { closes = l.closes; pages = turned l.pages h freed-page; past = l.past; ended = l.ended }
+  freed = record { closes = l.closes; pages = pages_with l.pages h freed-page; past = l.past; ended = l.ended }
 
   others-plain : (k : ℕ) (y : Seat W) → slice_get m.heads k ≡ Some y → (k ≡ h → ⊥) → is_writing_back y.head.state ≡ false
   others-plain k y there ne =
@@ -93,7 +94,7 @@ module _ {W : Type 0} (kit : Kit W) (law : Lawful kit) (start : List W) (b : Ben
       let le = leb-true (length me.writes) (me.head.written + 1) last in
       let me' = seated (become Idle (wrote (me.head.written + 1) (head_at b h))) in
       moving kit start m l inv h me me' (λ o. o) (m.sequence + 1) m.commits rest [] l.closes
-      (turned l.pages h freed-page) freed-page l.past l.ended
+      (pages_with l.pages h freed-page) freed-page l.past l.ended
       at struck-same (λ k ne. turned-other l.pages h _ k ne) (turned-here l.pages h _) (sym (append-nil l.closes)) (λ k ne. tt) (omega arith) (omega arith)
       (λ k it there ne hi _. wrong (sym (lone.no-hardware k it there) ∙ hi))
       (λ k it there s e _. absurd (omega (arith, s.low-S)))
@@ -134,7 +135,7 @@ module _ {W : Type 0} (kit : Kit W) (law : Lawful kit) (start : List W) (b : Ben
       })
       inv.past (inv.present h) inv.ended (inv.bound h)
 
-  pub keep-push : Keeps kit start l h Push (answered granted.Left (granted_push b h))
+  pub keep-push : Keeps kit start l h Push (with_answer granted.Left (granted_push b h))
   keep-push =
       let last = leb (length me.writes) (me.head.written + 1) in
       let x : Bool → Head = λ t. become (cond t Idle WritingBack) (wrote (me.head.written + 1) (head_at b h)) in

@@ -8,14 +8,15 @@ use Rattle.rules.specs.declared.types.Granted.TheVariants as granted
 use Rattle.rules.specs.declared.types.Head.{Head}
 use Rattle.rules.specs.declared.types.Slot.{Slot}
 use Rattle.rules.specs.Kit.{Kit, Lawful}
-use Rattle.rules.specs.Logs.{slot, is_empty, names, word_for, noted, is_full, put_in, log_of, laid}
-use Rattle.rules.specs.Heads.{is_hardware, is_software, abort, resnap, read_more}
-use Rattle.rules.specs.Bench.{Bench, head_at, present, is_odd, is_valid, checked, after_loads, conflict, hit_by_loads}
-use Rattle.rules.specs.Calls.{Outcome, leaves, logged_or, with_word, noting, hardware_read, software_read, fits_read, granted_read}
-use Rattle.rules.specs.Answers.{answered}
+use Rattle.rules.specs.Logs.{slot, is_empty, names, word_for, note, is_full, put_in, log_of, slots_with}
+use Rattle.rules.specs.Heads.{is_hardware, is_software, abort}
+use Rattle.rules.specs.Bench.{Bench, head_at, present_snapshot, is_odd, is_valid, cells_validated, after_loads, abort_if_hit, hit_by_loads}
+use Rattle.rules.specs.Calls.{Outcome, leaves, logged_or, with_word, notes_word, hardware_read, software_read, fits_read, granted_read}
+use Rattle.rules.specs.Answers.{with_answer}
 use Rattle.rules.specs.Bounds.{InBounds}
-use Rattle.rules.specs.History.{History, Page, turned, entered}
+use Rattle.rules.specs.History.{History, Page, pages_with, history_after}
 use Rattle.rules.specs.Laws.{Agrees, Explained}
+use Rattle.rules.proofs.Records.{resnap, read_more}
 use Rattle.rules.proofs.Basics.{eqb-flip, by-option, wrong, any_none, all_both}
 use Rattle.rules.proofs.Admitted.{Sized}
 use Rattle.rules.proofs.Seats.{Seat, Rig, view, seat_of, seat_at, meets, loaded}
@@ -50,14 +51,14 @@ module _ {W : Type 0} (kit : Kit W) (law : Lawful kit) (start : List W) (b : Ben
 
   -- the history of a word that is read from the cells
   from-cells : (w : W) (r : Rig W) → names c me.writes ≡ false
-      → Inv kit start r (record { closes = l.closes; pages = turned l.pages h (more-read c w (l.pages h)); past = l.past; ended = l.ended })
-      → Inv kit start r (entered l h (Read c) (Ok (granted.Word w)))
+      → Inv kit start r (record { closes = l.closes; pages = pages_with l.pages h (more-read c w (l.pages h)); past = l.past; ended = l.ended })
+      → Inv kit start r (history_after l h (Read c) (Ok (granted.Word w)))
   from-cells w r none new =
       let linked = (inv.heads h me at).live running in
-      subst (λ b. Inv kit start r (cond b l (record { closes = l.closes; pages = turned l.pages h (more-read c w (l.pages h)); past = l.past; ended = l.ended })))
+      subst (λ b. Inv kit start r (cond b l (record { closes = l.closes; pages = pages_with l.pages h (more-read c w (l.pages h)); past = l.past; ended = l.ended })))
       (sym (sym (linked.words c) ∙ none)) new
 
-  linked-read : (w : W) (me' : Seat W) → slice_get m.cells c ≡ Some w → Agrees m.cells me.reads → me'.writes ≡ me.writes → me'.reads ≡ noted c w me.reads
+  linked-read : (w : W) (me' : Seat W) → slice_get m.cells c ≡ Some w → Agrees m.cells me.reads → me'.writes ≡ me.writes → me'.reads ≡ note c w me.reads
       → Linked me' (more-read c w (l.pages h)).attempt
   linked-read w me' here valid ws rs =
       let linked = (inv.heads h me at).live running in
@@ -85,31 +86,31 @@ module _ {W : Type 0} (kit : Kit W) (law : Lawful kit) (start : List W) (b : Ben
       )
 
   abbrev Kept : Outcome W W → Type 0
-  Kept o = Keeps kit start l h (Read c) (answered granted.Word o)
+  Kept o = Keeps kit start l h (Read c) (with_answer granted.Word o)
 
   -- there is a slot for the word
   module _ (w : W) (room : is_full c me.reads ≡ false) where
     abbrev new : List (Slot W)
-    new = noted c w me.reads
+    new = note c w me.reads
 
     few : length new ≤ 32
     few = few-noted c w me.reads (let q = read_length b bounds lists h lt in let r = (head-bounds b bounds lists h lt).reads in omega arith) room
 
-    -- the head with the word noted
+    -- the head with the word note
     abbrev noted-seat : Head → Seat W
     noted-seat x = record { head = read_more (length new) x; reads = new; writes = me.writes }
 
-    -- how the bench is seen once the word is noted, after loads of these cells
+    -- how the bench is seen once the word is note, after loads of these cells
     note-kept : (cs : List ℕ) (x : Head) (l' : History W) → x.writes ≡ (head_at b h).writes
         → Inv kit start (record { heads = set (map (loaded kit cs) m.heads) h (noted-seat x); sequence = m.sequence; commits = m.commits; cells = m.cells }) l'
-        → Inv kit start (view (noting kit b h (after_loads kit b h cs) x c w).left) l'
+        → Inv kit start (view (notes_word kit b h (after_loads kit b h cs) x c w).left) l'
     note-kept cs x l' ws i =
-        let after = laid h new b.reads in
+        let after = slots_with h new b.reads in
         let mine : seat_at after b.writes h (read_more (length new) x) ≡ noted-seat x =
         ap (λ (r : List (Slot W)). record { head = read_more (length new) x; reads = r; writes = log_of h x.writes b.writes }) (own-log b bounds lists h lt b.reads new (read-room b bounds lists h lt) few)
         ∙ ap (λ n. record { head = read_more (length new) x; reads = new; writes = log_of h n b.writes }) ws in
         keep-swept kit start l' b bounds lists h lt b.table.sequence b.table.commits b.table.opened (read_more (length new) x) b.cells after b.writes
-        (conflict b h (hit_by_loads kit cs)) (loaded kit cs)
+        (abort_if_hit b h (hit_by_loads kit cs)) (loaded kit cs)
         (conflict-seen b bounds lists h lt after b.writes (reads-laid b bounds lists h lt new few) (hit_by_loads kit cs))
         (subst (λ (s : Seat W). Inv kit start (record { heads = set (map (loaded kit cs) m.heads) h s; sequence = m.sequence; commits = m.commits; cells = m.cells }) l') (sym mine) i)
 
@@ -120,15 +121,15 @@ module _ {W : Type 0} (kit : Kit W) (law : Lawful kit) (start : List W) (b : Ben
       let s = o.software software in
       let n = length l.closes in
       let plain = going-plain me.head.state (running-going me.head.state running) in
-      let x = resnap (present b.table) (head_at b h) in
+      let x = resnap (present_snapshot b.table) (head_at b h) in
       let me' = noted-seat w room x in
-      let cs = checked kit b h ++ (c ∷ []) in
+      let cs = cells_validated kit b h ++ (c ∷ []) in
       cond_both (is_valid kit b h) _ _ Kept
       (λ e.
       let valid = sound-valid kit law start b l inv h at software e in
-      let valid' : Agrees m.cells (noted c w me.reads) = agrees-noted c w me.reads m.cells here valid in
+      let valid' : Agrees m.cells (note c w me.reads) = agrees-noted c w me.reads m.cells here valid in
       let mono = count-mono l.closes h (l.pages h).since s.p n s.within in
-      from-cells w (view (noting kit b h (after_loads kit b h cs) x c w).left) none
+      from-cells w (view (notes_word kit b h (after_loads kit b h cs) x c w).left) none
       (note-kept w room cs x _ refl
       (quiet_at kit start m l inv h me at me' (loaded kit cs) _ (more-read c w (l.pages h)) l.past l.ended
       (struck-hit (hit_by_loads kit cs)) (λ k ne. turned-other l.pages h _ k ne) (turned-here l.pages h _)
@@ -148,7 +149,7 @@ module _ {W : Type 0} (kit : Kit W) (law : Lawful kit) (start : List W) (b : Ben
               p = n;
               before = omega (arith, s.before, s.within);
               within = omega arith;
-              valid-then = subst (λ xs. Agrees xs (noted c w me.reads)) (settled-all kit law start b l inv h at even) valid';
+              valid-then = subst (λ xs. Agrees xs (note c w me.reads)) (settled-all kit law start b l inv h at even) valid';
               since = o.since;
               under = s.under;
               budget = omega (arith, s.budget);
@@ -159,8 +160,8 @@ module _ {W : Type 0} (kit : Kit W) (law : Lawful kit) (start : List W) (b : Ben
       inv.past (explained-now w here even valid) inv.ended (inv.bound h))))
       (λ e.
       keep-swept kit start l b bounds lists h lt b.table.sequence b.table.commits b.table.opened (abort Changed (head_at b h)) b.cells b.reads b.writes
-      (conflict b h (hit_by_loads kit (checked kit b h))) (loaded kit (checked kit b h))
-      (conflict-seen b bounds lists h lt b.reads b.writes (untouched b bounds lists h lt) (hit_by_loads kit (checked kit b h)))
+      (abort_if_hit b h (hit_by_loads kit (cells_validated kit b h))) (loaded kit (cells_validated kit b h))
+      (conflict-seen b bounds lists h lt b.reads b.writes (untouched b bounds lists h lt) (hit_by_loads kit (cells_validated kit b h)))
       (changed kit law start b l inv h at software even e))
 
   keep-hardware : (w : W) → is_full c me.reads ≡ false → slice_get m.cells c ≡ Some w → names c me.writes ≡ false → is_hardware me.head.state ≡ true → Kept (hardware_read kit b h c w)
@@ -172,7 +173,7 @@ module _ {W : Type 0} (kit : Kit W) (law : Lawful kit) (start : List W) (b : Ben
       let me' = noted-seat w room (head_at b h) in
       cond_both (fits_read kit b h c) _ _ Kept
       (λ e.
-      from-cells w (view (noting kit b h (after_loads kit b h (c ∷ [])) (head_at b h) c w).left) none
+      from-cells w (view (notes_word kit b h (after_loads kit b h (c ∷ [])) (head_at b h) c w).left) none
       (note-kept w room (c ∷ []) (head_at b h) _ refl
       (quiet_at kit start m l inv h me at me' (loaded kit (c ∷ [])) _ (more-read c w (l.pages h)) l.past l.ended
       (struck-hit (hit_by_loads kit (c ∷ []))) (λ k ne. turned-other l.pages h _ k ne) (turned-here l.pages h _)
@@ -190,7 +191,7 @@ module _ {W : Type 0} (kit : Kit W) (law : Lawful kit) (start : List W) (b : Ben
       (λ j it there ne hm hi hf.
       let gone = (or_parts (meets kit c it.writes) false (survives kit (c ∷ []) it hi hf)).0 in (
         inv.clear h j me it at there (λ q. ne (sym q)) hardware hi,
-        all_both (λ s. meets kit s.cell me.reads ≡ false) (λ s. eqb (kit.line c) (kit.line s.cell) ≡ false) (λ s. meets kit s.cell (noted c w me.reads) ≡ false)
+        all_both (λ s. meets kit s.cell me.reads ≡ false) (λ s. eqb (kit.line c) (kit.line s.cell) ≡ false) (λ s. meets kit s.cell (note c w me.reads) ≡ false)
             (λ s a b. meets-noted kit s.cell c w me.reads a (eqb-flip (kit.line c) (kit.line s.cell) b))
             it.writes (inv.clear j h it me there at ne hi hardware) (any_none (λ s. eqb (kit.line c) (kit.line s.cell)) it.writes gone),
       ))
@@ -215,7 +216,7 @@ module _ {W : Type 0} (kit : Kit W) (law : Lawful kit) (start : List W) (b : Ben
       keep-software w few here none software (gate (is_software me.head.state && not (names c me.writes)) (is_odd m.sequence) calm (rw (software, none))))))
       (λ w e.
       let linked = (inv.heads h me at).live running in
-      subst (λ t. Inv kit start (view b) (cond t l (record { closes = l.closes; pages = turned l.pages h (more-read c w (l.pages h)); past = l.past; ended = l.ended })))
+      subst (λ t. Inv kit start (view b) (cond t l (record { closes = l.closes; pages = pages_with l.pages h (more-read c w (l.pages h)); past = l.past; ended = l.ended })))
       (sym (sym (linked.words c) ∙ word_some c w me.writes e)) inv)
     where
       from_cell : W → Outcome W W

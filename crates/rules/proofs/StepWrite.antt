@@ -8,14 +8,15 @@ use Rattle.rules.specs.declared.types.Granted.TheVariants as granted
 use Rattle.rules.specs.declared.types.Head.{Head}
 use Rattle.rules.specs.declared.types.Slot.{Slot}
 use Rattle.rules.specs.Kit.{Kit, Lawful}
-use Rattle.rules.specs.Logs.{slot, put, is_full, laid}
-use Rattle.rules.specs.Heads.{is_hardware, is_software, abort, wrote_more}
-use Rattle.rules.specs.Bench.{Bench, head_at, conflict, hit_by_store}
-use Rattle.rules.specs.Calls.{Outcome, writing, fits_write, hardware_write, granted_write}
-use Rattle.rules.specs.Answers.{answered}
+use Rattle.rules.specs.Logs.{slot, put, is_full, slots_with}
+use Rattle.rules.specs.Heads.{is_hardware, is_software, abort}
+use Rattle.rules.specs.Bench.{Bench, head_at, abort_if_hit, hit_by_store}
+use Rattle.rules.specs.Calls.{Outcome, puts_word, fits_write, hardware_write, granted_write}
+use Rattle.rules.specs.Answers.{with_answer}
 use Rattle.rules.specs.Bounds.{InBounds}
-use Rattle.rules.specs.History.{History, Page, entered}
+use Rattle.rules.specs.History.{History, Page, history_after}
 use Rattle.rules.specs.Laws.{Explained}
+use Rattle.rules.proofs.Records.{wrote_more}
 use Rattle.rules.proofs.Basics.{by-test, wrong}
 use Rattle.rules.proofs.Admitted.{Sized}
 use Rattle.rules.proofs.Seats.{Seat, Rig, view, seat_of, seat_at, abort_seat, meets, claimed}
@@ -69,11 +70,11 @@ module _ {W : Type 0} (kit : Kit W) (law : Lawful kit) (start : List W) (b : Ben
   few : length new ≤ 32
   few = few-put c w me.writes (let q = write-length b bounds lists h lt in let r = (head-bounds b bounds lists h lt).writes in omega arith) room
 
-  mine : seat_at b.reads (laid h new b.writes) h x ≡ me'
+  mine : seat_at b.reads (slots_with h new b.writes) h x ≡ me'
   mine = ap (λ (r : List (Slot W)). record { head = x; reads = me.reads; writes = r }) (own-log b bounds lists h lt b.writes new (write-room b bounds lists h lt) few)
 
   abbrev Kept : Outcome (Unit {0}) W → Type 0
-  Kept o = Keeps kit start l h (Write c w) (answered (λ _. granted.Done) o)
+  Kept o = Keeps kit start l h (Write c w) (with_answer (λ _. granted.Done) o)
 
   linked-write : Linked me' (more-written c w (l.pages h)).attempt
   linked-write =
@@ -93,13 +94,13 @@ module _ {W : Type 0} (kit : Kit W) (law : Lawful kit) (start : List W) (b : Ben
       let x = inv.present h in
       (x.0, x.1, x.2, x.3, λ q e. cc ((inv.heads h me at).live running).unclosed)
 
-  keep-software : is_software me.head.state ≡ true → Kept (writing kit b h (Ok tt) new b.table.heads x)
+  keep-software : is_software me.head.state ≡ true → Kept (puts_word kit b h (Ok tt) new b.table.heads x)
   keep-software software =
       let o = inv.heads h me at in
       let s = o.software software in
       let plain = going-plain me.head.state (running-going me.head.state running) in
-      keep-alone kit start _ b bounds lists h lt b.table.sequence b.table.commits b.table.opened x b.cells b.reads (laid h new b.writes) (writes-laid b bounds lists h lt new few)
-      (subst (λ (s : Seat W). Inv kit start (record { heads = set (map (λ (o : Seat W). o) m.heads) h s; sequence = m.sequence; commits = m.commits; cells = m.cells }) (entered l h (Write c w) (Ok granted.Done))) (sym mine)
+      keep-alone kit start _ b bounds lists h lt b.table.sequence b.table.commits b.table.opened x b.cells b.reads (slots_with h new b.writes) (writes-laid b bounds lists h lt new few)
+      (subst (λ (s : Seat W). Inv kit start (record { heads = set (map (λ (o : Seat W). o) m.heads) h s; sequence = m.sequence; commits = m.commits; cells = m.cells }) (history_after l h (Write c w) (Ok granted.Done))) (sym mine)
       (quiet_at kit start m l inv h me at me' (λ o. o) _ (more-written c w (l.pages h)) l.past l.ended
       struck-same (λ k ne. turned-other l.pages h _ k ne) (turned-here l.pages h _)
       (record {
@@ -137,9 +138,9 @@ module _ {W : Type 0} (kit : Kit W) (law : Lawful kit) (start : List W) (b : Ben
       let aborts : cond (is_hardware me.head.state) (me.head.aborts + 1) me.head.aborts ≡ me.head.aborts + 1 = cond-true (is_hardware me.head.state) (me.head.aborts + 1) me.head.aborts hardware in
       cond_both (fits_write kit b h new x) _ _ Kept
       (λ e.
-      keep-swept kit start _ b bounds lists h lt b.table.sequence b.table.commits b.table.opened x b.cells b.reads (laid h new b.writes)
-      (conflict b h (hit_by_store kit c)) (claimed kit c) (conflict-seen b bounds lists h lt b.reads (laid h new b.writes) (writes-laid b bounds lists h lt new few) (hit_by_store kit c))
-      (subst (λ (s : Seat W). Inv kit start (record { heads = set (map (claimed kit c) m.heads) h s; sequence = m.sequence; commits = m.commits; cells = m.cells }) (entered l h (Write c w) (Ok granted.Done))) (sym mine)
+      keep-swept kit start _ b bounds lists h lt b.table.sequence b.table.commits b.table.opened x b.cells b.reads (slots_with h new b.writes)
+      (abort_if_hit b h (hit_by_store kit c)) (claimed kit c) (conflict-seen b bounds lists h lt b.reads (slots_with h new b.writes) (writes-laid b bounds lists h lt new few) (hit_by_store kit c))
+      (subst (λ (s : Seat W). Inv kit start (record { heads = set (map (claimed kit c) m.heads) h s; sequence = m.sequence; commits = m.commits; cells = m.cells }) (history_after l h (Write c w) (Ok granted.Done))) (sym mine)
       (quiet_at kit start m l inv h me at me' (claimed kit c) _ (more-written c w (l.pages h)) l.past l.ended
       (struck-hit (hit_by_store kit c)) (λ k ne. turned-other l.pages h _ k ne) (turned-here l.pages h _)
       (record {
@@ -159,7 +160,7 @@ module _ {W : Type 0} (kit : Kit W) (law : Lawful kit) (start : List W) (b : Ben
       ))
       inv.past explained-write inv.ended (inv.bound h))))
       (λ e.
-      keep-alone kit start _ b bounds lists h lt b.table.sequence b.table.commits b.table.opened (abort Capacity x) b.cells b.reads (laid h new b.writes) (writes-laid b bounds lists h lt new few)
+      keep-alone kit start _ b bounds lists h lt b.table.sequence b.table.commits b.table.opened (abort Capacity x) b.cells b.reads (slots_with h new b.writes) (writes-laid b bounds lists h lt new few)
       (quiet_at kit start m l inv h me at (abort_seat Capacity me') (λ o. o) l.pages (l.pages h) l.past l.ended
       struck-same (λ k ne. refl) refl
       (record {

@@ -10,7 +10,7 @@ use Rattle.rules.specs.declared.types.State.{State}
 use Rattle.rules.specs.declared.types.State.TheVariants.{Idle, Hardware, Software, Aborted, WritingBack}
 use Rattle.rules.specs.Kit.{Kit}
 use Rattle.rules.specs.Heads.{is_hardware, abort}
-use Rattle.rules.specs.Bench.{Bench, map_at, conflict, after_loads, after_store, hit_by_loads, hit_by_store, lock_out, is_locked_out}
+use Rattle.rules.specs.Bench.{Bench, map_at, abort_if_hit, after_loads, after_store, hit_by_loads, hit_by_store, lock_out, is_locked_out}
 use Rattle.rules.specs.Logs.{log_of}
 
 -- x has become y
@@ -49,9 +49,9 @@ hit-if : (b : Bool) (cause : Cause) (x : Head) → (b ≡ true → is_hardware x
 hit-if b cause x h = cond_both b (abort cause x) x (λ (y : Head). Hit x y) (λ e. inr (h e, (cause, refl))) (λ _. inl refl)
 
 module _ {W : Type 0} (kit : Kit W) (b : Bench W) (k : ℕ) where
-  swept-conflict : (hit : List (Slot W) → List (Slot W) → Bool) → Swept b.table.heads (map_at (conflict b k hit) 0 b.table.heads)
+  swept-conflict : (hit : List (Slot W) → List (Slot W) → Bool) → Swept b.table.heads (map_at (abort_if_hit b k hit) 0 b.table.heads)
   swept-conflict hit =
-      swept_once (conflict b k hit)
+      swept_once (abort_if_hit b k hit)
       (λ j x. let struck = hit (log_of j x.reads b.reads) (log_of j x.writes b.writes) in
       hit-if (not (eqb j k) && (is_hardware x.state && struck)) Conflict x
       (λ e. (and_parts (is_hardware x.state) struck (and_parts (not (eqb j k)) (is_hardware x.state && struck) e).1).0))

@@ -10,8 +10,8 @@ use Rattle.rules.specs.declared.types.State.{State}
 use Rattle.rules.specs.declared.types.State.TheVariants.{Idle, Hardware, Software, Aborted, WritingBack}
 use Rattle.rules.specs.declared.types.Table.{Table}
 use Rattle.rules.specs.Heads.{new_head, is_idle, is_hardware, abort}
-use Rattle.rules.specs.Bench.{with_heads}
 use Rattle.rules.specs.Bounds.{HeadBounds, InBounds, busy_heads}
+use Rattle.rules.proofs.Records.{with_heads}
 use Rattle.rules.proofs.Sweeps.{Hit, Swept, swept_none, swept_at}
 use Rattle.rules.proofs.HeadBounds.{abort-bounds}
 

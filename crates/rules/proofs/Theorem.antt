@@ -13,13 +13,14 @@ use Rattle.rules.specs.declared.types.Refusal.TheVariants as refuse
 use Rattle.rules.specs.declared.types.Slot.{Slot}
 use Rattle.rules.specs.Kit.{Kit, Lawful}
 use Rattle.rules.specs.Heads.{new_head, is_hardware, is_writing_back}
-use Rattle.rules.specs.Bench.{Bench, bench, is_odd}
+use Rattle.rules.specs.Bench.{Bench, is_odd}
 use Rattle.rules.specs.Calls.{new_table}
 use Rattle.rules.specs.Answers.{call_of}
 use Rattle.rules.specs.Bounds.{InBounds}
-use Rattle.rules.specs.Runs.{made_with, made_on, answers_of, left_by}
-use Rattle.rules.specs.History.{History, blank, nothing_yet, entered, history_of, cells_after}
+use Rattle.rules.specs.Runs.{step_with, step, answers_of, left_by}
+use Rattle.rules.specs.History.{History, blank, nothing_yet, history_after, history_of, cells_after}
 use Rattle.rules.specs.Laws.{ThreeLaws}
+use Rattle.rules.proofs.Records.{bench}
 use Rattle.rules.proofs.Basics.{by-test, wrong}
 use Rattle.rules.proofs.Admitted.{Admitted, admitted}
 use Rattle.rules.proofs.Cases.{granted_of, by_call}
@@ -35,7 +36,7 @@ use Rattle.rules.proofs.StepPush.{keep-push}
 
 module _ {W : Type 0} (kit : Kit W) (law : Lawful kit) (start : List W) where
   -- a refusal leaves the history as it is
-  refused-entry : (l : History W) (k : ℕ) (call : Call ℕ W) (e : Refusal) → entered l k call (Err e) ≡ l
+  refused-entry : (l : History W) (k : ℕ) (call : Call ℕ W) (e : Refusal) → history_after l k call (Err e) ≡ l
   refused-entry l k Open e = refl
   refused-entry l k (Read c) e = refl
   refused-entry l k (Write c w) e = refl
@@ -56,7 +57,7 @@ module _ {W : Type 0} (kit : Kit W) (law : Lawful kit) (start : List W) where
     keep-granted Again a = keep-again kit law start b l inv bounds a.lists who.head a.head a.taken a.free
     keep-granted Drop a = keep-drop kit law start b l inv bounds a.lists who.head a.head a.taken
 
-    -- a refused call keeps it, since nothing changes
+    -- a refuses call keeps it, since nothing changes
     pub keep-call : (call : Call ℕ W) → Keeps kit start l who.head call (call_of kit b who call)
     keep-call call =
         by_call kit b who call (Keeps kit start l who.head call)
@@ -64,7 +65,7 @@ module _ {W : Type 0} (kit : Kit W) (law : Lawful kit) (start : List W) where
 
   -- a call with the lists as they are, or with one of wrong length
   keep-made : (b : Bench W) (l : History W) (call : Made W) (lists : Lent) → InBounds b.table → Inv kit start (view b) l
-      → InBounds (made_with kit b call lists).1.table × Inv kit start (view (made_with kit b call lists).1) (entered l call.caller.head call.call (made_with kit b call lists).0)
+      → InBounds (step_with kit b call lists).1.table × Inv kit start (view (step_with kit b call lists).1) (history_after l call.caller.head call.call (step_with kit b call lists).0)
   keep-made b l call lent.Right bounds inv = ((bounds-kept kit b call.caller call.call bounds).0, keep-call b l inv bounds call.caller call.call)
   keep-made b l call lent.Wrong bounds inv = (bounds, subst (Inv kit start (view b)) (sym (refused-entry l call.caller.head call.call refuse.Lists)) inv)
 
@@ -73,7 +74,7 @@ module _ {W : Type 0} (kit : Kit W) (law : Lawful kit) (start : List W) where
   keep_all b l [] bounds inv = inv
   keep_all b l (call ∷ calls) bounds inv =
       let k = keep-made b l call call.lent bounds inv in
-      keep_all (made_on kit b call).1 (entered l call.caller.head call.call (made_on kit b call).0) calls k.0 k.1
+      keep_all (step kit b call).1 (history_after l call.caller.head call.call (step kit b call).0) calls k.0 k.1
 
   pub gives : (m : Rig W) (l : History W) → Inv kit start m l → ThreeLaws kit.patience start m.cells l
   gives m l inv = record {

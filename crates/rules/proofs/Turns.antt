@@ -7,17 +7,17 @@ use Rattle.rules.specs.declared.types.State.TheVariants.{Idle, Hardware, Softwar
 use Rattle.rules.specs.Kit.{Kit}
 use Rattle.rules.specs.Heads.{is_hardware, is_software, is_aborted, is_writing_back, is_idle}
 use Rattle.rules.specs.Bench.{is_odd}
-use Rattle.rules.specs.History.{History, Attempt, Ended, Page, turned, closes_of_others}
+use Rattle.rules.specs.History.{History, Attempt, Ended, Page, pages_with, closes_of_others}
 use Rattle.rules.specs.Laws.{Explained, Bounded, most_attempts}
 use Rattle.rules.proofs.Basics.{wrong}
 use Rattle.rules.proofs.Seats.{Seat, Rig}
 use Rattle.rules.proofs.Invariant.{HeadOk, Clear, Inv}
 use Rattle.rules.proofs.Frames.{Struck, quiet}
 
-pub turned-here : {X : Type 0} (pages : ℕ → X) (h : ℕ) (p : X) → turned pages h p h ≡ p
+pub turned-here : {X : Type 0} (pages : ℕ → X) (h : ℕ) (p : X) → pages_with pages h p h ≡ p
 turned-here pages h p = cond-true (eqb h h) p (pages h) (eq-eqb h h refl)
 
-pub turned-other : {X : Type 0} (pages : ℕ → X) (h : ℕ) (p : X) (k : ℕ) → (k ≡ h → ⊥) → turned pages h p k ≡ pages k
+pub turned-other : {X : Type 0} (pages : ℕ → X) (h : ℕ) (p : X) (k : ℕ) → (k ≡ h → ⊥) → pages_with pages h p k ≡ pages k
 turned-other pages h p k ne = cond-false (eqb k h) p (pages k) (ne_eqb k h ne)
 
 pub all_true : {X : Type 0} (P : X → Type 0) → ((x : X) → P x) → (xs : List X) → AllByRecursion P xs

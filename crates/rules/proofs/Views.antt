@@ -7,10 +7,11 @@ use Rattle.std.proofs.ByRecursion.{All-get_or}
 use Rattle.parts.specs.declared.types.Cause.TheVariants.{Conflict, Lock}
 use Rattle.rules.specs.declared.types.Head.{Head}
 use Rattle.rules.specs.declared.types.Slot.{Slot}
-use Rattle.rules.specs.Logs.{log_of, laid}
+use Rattle.rules.specs.Logs.{log_of, slots_with}
 use Rattle.rules.specs.Heads.{new_head, is_hardware, abort}
-use Rattle.rules.specs.Bench.{Bench, bench, table_with, map_at, head_at, read_log, write_log, conflict, is_locked_out, lock_out}
+use Rattle.rules.specs.Bench.{Bench, map_at, head_at, read_log, write_log, abort_if_hit, is_locked_out, lock_out}
 use Rattle.rules.specs.Bounds.{HeadBounds, InBounds}
+use Rattle.rules.proofs.Records.{bench, with_numbers}
 use Rattle.rules.proofs.Basics.{by-test}
 use Rattle.rules.proofs.Admitted.{Sized}
 use Rattle.rules.proofs.Laid.{log-laid-own, log-laid-other}
@@ -36,11 +37,11 @@ module _ {W : Type 0} (b : Bench W) (bounds : InBounds b.table) (lists : Sized b
   pub write-length : length (write_log b k) ≡ (head_at b k).writes
   write-length = length-take-le _ (drop (32 * k) b.writes) (let q = length-drop (32 * k) b.writes in omega (arith, write-room, head-bounds.writes))
 
-  -- the head's own log once it is laid, and another's
-  pub own-log : (slots log : List (Slot W)) → 32 * k + 32 ≤ length slots → length log ≤ 32 → log_of k (length log) (laid k log slots) ≡ log
+  -- the head's own log once it is slots_with, and another's
+  pub own-log : (slots log : List (Slot W)) → 32 * k + 32 ≤ length slots → length log ≤ 32 → log_of k (length log) (slots_with k log slots) ≡ log
   own-log slots log room few = log-laid-own k log slots few room (length log) (omega arith) ∙ take_all (length log) log (omega arith)
 
-  pub other-log : (slots log : List (Slot W)) → 32 * k + 32 ≤ length slots → length log ≤ 32 → (j n : ℕ) → (j ≡ k → ⊥) → n ≤ 32 → log_of j n (laid k log slots) ≡ log_of j n slots
+  pub other-log : (slots log : List (Slot W)) → 32 * k + 32 ≤ length slots → length log ≤ 32 → (j n : ℕ) → (j ≡ k → ⊥) → n ≤ 32 → log_of j n (slots_with k log slots) ≡ log_of j n slots
   other-log slots log room few j n ne le = log-laid-other k log slots few room j n ne le
 
   abbrev pub Elsewhere : (ℕ → Head → Head) → (Seat W → Seat W) → List (Slot W) → List (Slot W) → Type 0
@@ -48,7 +49,7 @@ module _ {W : Type 0} (b : Bench W) (bounds : InBounds b.table) (lists : Sized b
 
   -- the view after f was done to each other head, and the head k became h
   pub viewed : (s c n : ℕ) (f : ℕ → Head → Head) (g : Seat W → Seat W) (h : Head) (cells : List W) (reads writes : List (Slot W)) → Elsewhere f g reads writes
-      → view (bench (table_with b.table (set (map_at f 0 b.table.heads) k h) s c n) cells reads writes)
+      → view (bench (with_numbers b.table (set (map_at f 0 b.table.heads) k h) s c n) cells reads writes)
       ≡ record { heads = set (map g (view b).heads) k (seat_at reads writes k h); sequence = s; commits = c; cells = cells }
   viewed s c n f g h cells reads writes others =
       ap (λ (hs : List (Seat W)). record { heads = hs; sequence = s; commits = c; cells = cells })
@@ -56,27 +57,27 @@ module _ {W : Type 0} (b : Bench W) (bounds : InBounds b.table) (lists : Sized b
 
   -- no other head is touched
   pub viewed-alone : (s c n : ℕ) (h : Head) (cells : List W) (reads writes : List (Slot W)) → Elsewhere (λ _ x. x) (λ o. o) reads writes
-      → view (bench (table_with b.table (set b.table.heads k h) s c n) cells reads writes)
+      → view (bench (with_numbers b.table (set b.table.heads k h) s c n) cells reads writes)
       ≡ record { heads = set (map (λ (o : Seat W). o) (view b).heads) k (seat_at reads writes k h); sequence = s; commits = c; cells = cells }
   viewed-alone s c n h cells reads writes others =
-      ap (λ hs. view (bench (table_with b.table (set hs k h) s c n) cells reads writes)) (sym (map_at-id 0 b.table.heads))
+      ap (λ hs. view (bench (with_numbers b.table (set hs k h) s c n) cells reads writes)) (sym (map_at-id 0 b.table.heads))
       ∙ viewed s c n (λ _ x. x) (λ o. o) h cells reads writes others
 
   pub untouched : Elsewhere (λ _ x. x) (λ o. o) b.reads b.writes
   untouched j x bound ne = refl
 
   -- new slots of the head k leave the others' logs
-  pub reads-laid : (log : List (Slot W)) → length log ≤ 32 → Elsewhere (λ _ x. x) (λ o. o) (laid k log b.reads) b.writes
+  pub reads-laid : (log : List (Slot W)) → length log ≤ 32 → Elsewhere (λ _ x. x) (λ o. o) (slots_with k log b.reads) b.writes
   reads-laid log few j x bound ne =
       ap (λ (r : List (Slot W)). record { head = x; reads = r; writes = log_of j x.writes b.writes }) (other-log b.reads log read-room few j x.reads ne bound.reads)
 
-  pub writes-laid : (log : List (Slot W)) → length log ≤ 32 → Elsewhere (λ _ x. x) (λ o. o) b.reads (laid k log b.writes)
+  pub writes-laid : (log : List (Slot W)) → length log ≤ 32 → Elsewhere (λ _ x. x) (λ o. o) b.reads (slots_with k log b.writes)
   writes-laid log few j x bound ne =
       ap (λ (r : List (Slot W)). record { head = x; reads = log_of j x.reads b.reads; writes = r }) (other-log b.writes log write-room few j x.writes ne bound.writes)
 
   -- conflicts and the lock, seen with the logs
   module _ (reads writes : List (Slot W)) (same : Elsewhere (λ _ x. x) (λ o. o) reads writes) where
-    pub conflict-seen : (hit : List (Slot W) → List (Slot W) → Bool) → Elsewhere (conflict b k hit) (struck_by hit) reads writes
+    pub conflict-seen : (hit : List (Slot W) → List (Slot W) → Bool) → Elsewhere (abort_if_hit b k hit) (struck_by hit) reads writes
     conflict-seen hit j x bound ne =
         let it = seat_at b.reads b.writes j x in
         let hurt = is_hardware x.state && hit it.reads it.writes in
@@ -88,5 +89,5 @@ module _ {W : Type 0} (b : Bench W) (bounds : InBounds b.table) (lists : Sized b
         by-test (is_locked_out x.state) (λ t. seat_at reads writes j (cond t (abort Lock x) x) ≡ cond t (abort_seat Lock (seat_at reads writes j x)) (seat_at reads writes j x))
         (λ _. refl) (λ _. refl)
 
-    pub locks-seen : (hit : List (Slot W) → List (Slot W) → Bool) → Elsewhere (λ j x. lock_out j (conflict b k hit j x)) (λ o. locked (struck_by hit o)) reads writes
-    locks-seen hit j x bound ne = lock-seen j (conflict b k hit j x) ∙ ap locked (conflict-seen hit j x bound ne)
+    pub locks-seen : (hit : List (Slot W) → List (Slot W) → Bool) → Elsewhere (λ j x. lock_out j (abort_if_hit b k hit j x)) (λ o. locked (struck_by hit o)) reads writes
+    locks-seen hit j x bound ne = lock-seen j (abort_if_hit b k hit j x) ∙ ap locked (conflict-seen hit j x bound ne)

@@ -4,7 +4,6 @@ use Rattle.std.proofs.lemmas.Bool.{and_parts, leb-true}
 use Rattle.rules.specs.declared.types.Refusal.TheVariants as refuse
 use Rattle.rules.specs.declared.types.Table.{Table}
 use Rattle.rules.specs.Kit.{Kit, Lawful}
-use Rattle.rules.specs.Bench.{bench}
 use Rattle.rules.specs.Calls.{in_range, new_table, set_up}
 use Rattle.rules.specs.Runs.{answers_of, left_by}
 use Rattle.rules.specs.History.{nothing_yet, history_of}
@@ -27,9 +26,8 @@ set-up-new heads count t e =
         leb-true heads 8 (and_parts (leb 1 heads) (leb heads 8) a.0).1
 
 pub laws-of-runs : {W : Type 0} (kit : Kit W) → Lawful kit → LawsOfRuns W kit
-laws-of-runs kit law heads count t e cells reads writes calls =
-    let s = set-up-new heads count t e in
-    let b = bench t cells reads writes in
-    let inv = subst (λ t. Inv kit cells (view (bench t cells reads writes)) nothing_yet) (sym s.0) (new-inv kit cells heads count s.1 reads writes) in
-    gives kit law cells (view (left_by kit b calls)) (history_of nothing_yet calls (answers_of kit b calls))
-    (keep_all kit law cells b nothing_yet calls (bounds-at-set-up heads count t e) inv)
+laws-of-runs kit law heads count b calls e =
+    let s = set-up-new heads count b.table e in
+    let inv = subst (λ t. Inv kit b.cells (view (record b { table = t })) nothing_yet) (sym s.0) (new-inv kit b.cells heads count s.1 b.reads b.writes) in
+    gives kit law b.cells (view (left_by kit b calls)) (history_of nothing_yet calls (answers_of kit b calls))
+    (keep_all kit law b.cells b nothing_yet calls (bounds-at-set-up heads count b.table e) inv)

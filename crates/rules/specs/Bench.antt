@@ -1,5 +1,5 @@
 -- A rig on the bench: its table and the three lists, what its heads do to one another, and validation.
-use Rattle.std.specs.Prelude.{ℕ, ◌+◌, ◌%◌, Bool, false, cond, not, ◌&&◌, ◌||◌, List, [], ◌∷◌, length, Some, None, Option, ◌==◌, nat_lt, slice_index_or, slice_set}
+use Rattle.std.specs.Prelude.{ℕ, ◌+◌, ◌%◌, Bool, false, not, ◌&&◌, ◌||◌, List, [], ◌∷◌, length, Some, None, Option, ◌==◌, nat_lt, slice_index_or, slice_set, if◌then◌else◌}
 use Rattle.std.specs.List.{slice_get, list_any, list_all}
 use Rattle.parts.specs.declared.types.Cause.TheVariants.{Conflict, Lock}
 use Rattle.rules.specs.declared.types.Head.{Head}
@@ -17,29 +17,12 @@ pub record Bench (W : Type 0) : Type 0 where
   pub reads : List (Slot W)
   pub writes : List (Slot W)
 
-abbrev pub bench : {W : Type 0} → Table → List W → List (Slot W) → List (Slot W) → Bench W
-bench t cells reads writes = record { table = t; cells = cells; reads = reads; writes = writes }
-
--- a table with these heads, sequence number, commit counter and transactions opened
-abbrev pub table_with : Table → List Head → ℕ → ℕ → ℕ → Table
-table_with t heads sequence commits opened = record {
-  heads = heads;
-  head_count = t.head_count;
-  cell_count = t.cell_count;
-  sequence = sequence;
-  commits = commits;
-  opened = opened;
-}
-
-abbrev pub with_heads : Table → List Head → Table
-with_heads t heads = table_with t heads t.sequence t.commits t.opened
-
 abbrev pub is_odd : ℕ → Bool
 is_odd n = n % 2 == 1
 
 -- the snapshot that an attempt takes now
-abbrev pub present : Table → Snapshot
-present t = record { sequence = t.sequence; commits = t.commits }
+abbrev pub present_snapshot : Table → Snapshot
+present_snapshot t = record { sequence = t.sequence; commits = t.commits }
 
 -- each element by its place, from k on
 abbrev pub map_at : {X : Type 0} → (ℕ → X → X) → ℕ → List X → List X
@@ -62,9 +45,9 @@ module _ {W : Type 0} (b : Bench W) (k : ℕ) where
   abbrev pub write_log : List (Slot W)
   write_log = log_of k head_at.writes b.writes
 
-  -- the table with another record for the head k
-  abbrev pub head_set : List Head → Head → Table
-  head_set heads h = with_heads b.table (slice_set heads k h)
+  -- the table with these heads, and another record for the head k
+  abbrev pub table_with : List Head → Head → Table
+  table_with heads h = record b.table { heads = slice_set heads k h }
 
 module _ {W : Type 0} (kit : Kit W) where
   -- which logs of another head a load of one of these cells runs into: a write log with a cell of its line
@@ -77,18 +60,19 @@ module _ {W : Type 0} (kit : Kit W) where
 
 module _ {W : Type 0} (b : Bench W) (k : ℕ) where
   -- another head than k, in hardware, whose logs are hit aborts by conflict
-  abbrev pub conflict : (List (Slot W) → List (Slot W) → Bool) → ℕ → Head → Head
-  conflict hit j x =
-      cond (not (j == k) && (is_hardware x.state && hit (log_of j x.reads b.reads) (log_of j x.writes b.writes)))
-      (abort Conflict x) x
+  abbrev pub abort_if_hit : (List (Slot W) → List (Slot W) → Bool) → ℕ → Head → Head
+  abort_if_hit hit j x =
+      if not (j == k) && (is_hardware x.state && hit (log_of j x.reads b.reads) (log_of j x.writes b.writes))
+      then abort Conflict x
+      else x
 
 module _ {W : Type 0} (kit : Kit W) (b : Bench W) (k : ℕ) where
   -- the heads after the head k has loaded these cells, and after a hardware store of it to a cell
   abbrev pub after_loads : List ℕ → List Head
-  after_loads cs = map_at (conflict b k (hit_by_loads kit cs)) 0 b.table.heads
+  after_loads cs = map_at (abort_if_hit b k (hit_by_loads kit cs)) 0 b.table.heads
 
   abbrev pub after_store : ℕ → List Head
-  after_store c = map_at (conflict b k (hit_by_store kit c)) 0 b.table.heads
+  after_store c = map_at (abort_if_hit b k (hit_by_store kit c)) 0 b.table.heads
 
   -- whether the snapshot of the head k is the present one
   abbrev pub is_current : Bool
@@ -100,20 +84,21 @@ module _ {W : Type 0} (kit : Kit W) (b : Bench W) (k : ℕ) where
   holds s = holds_same kit.same s.word (slice_get b.cells s.cell)
 
   -- the cells that validation of a log loads, slot by slot: it ends at the first word that differs, and loads that cell if there is one
-  abbrev pub loaded_by : List (Slot W) → List ℕ
-  loaded_by [] = []
-  loaded_by (s ∷ log) = cond (holds s) (s.cell ∷ loaded_by log) (cond (nat_lt s.cell (length b.cells)) (s.cell ∷ []) [])
+  abbrev pub cells_loaded : List (Slot W) → List ℕ
+  cells_loaded [] = []
+  cells_loaded (s ∷ log) =
+      if holds s then s.cell ∷ cells_loaded log else (if nat_lt s.cell (length b.cells) then s.cell ∷ [] else [])
 
   -- validation is skipped while the snapshot is current: whether the head k goes on, and the cells that it has loaded for it
   abbrev pub is_valid : Bool
   is_valid = is_current || list_all holds (read_log b k)
 
-  abbrev pub checked : List ℕ
-  checked = cond is_current [] (loaded_by (read_log b k))
+  abbrev pub cells_validated : List ℕ
+  cells_validated = if is_current then [] else cells_loaded (read_log b k)
 
 -- when the sequence lock is taken, every head in hardware aborts
 abbrev pub is_locked_out : State → Bool
 is_locked_out s = is_hardware s
 
 abbrev pub lock_out : ℕ → Head → Head
-lock_out j x = cond (is_locked_out x.state) (abort Lock x) x
+lock_out j x = if is_locked_out x.state then abort Lock x else x

@@ -1,5 +1,5 @@
 -- How large a rig's numbers get, whatever the lists hold: no number ever runs over.
-use Rattle.std.specs.Prelude.{◌≡◌, ℕ, ◌+◌, ◌/◌, ◌≤◌, cond, List, [], ◌∷◌, length, Ok}
+use Rattle.std.specs.Prelude.{◌≡◌, ℕ, ◌+◌, ◌/◌, ◌≤◌, List, [], ◌∷◌, length, Ok, if◌then◌else◌}
 use Rattle.std.specs.List.{AllByRecursion}
 use Rattle.parts.specs.declared.calls.Call.{Call}
 use Rattle.rules.specs.declared.types.Caller.{Caller}
@@ -15,14 +15,14 @@ use Rattle.rules.specs.Answers.{call_of}
 pub record HeadBounds (h : Head) : Type 0 where
   pub reads : h.reads ≤ 32
   pub writes : h.writes ≤ 32
-  pub aborts : h.aborts + cond (is_hardware h.state) 1 0 ≤ h.attempts
+  pub aborts : h.aborts + (if is_hardware h.state then 1 else 0) ≤ h.attempts
   pub attempts : h.attempts ≤ 70_000
-  pub written : cond (is_writing_back h.state) (h.written + 1) 0 ≤ h.writes
+  pub written : (if is_writing_back h.state then h.written + 1 else 0) ≤ h.writes
 
 -- how many heads have a transaction
 abbrev pub busy_heads : List Head → ℕ
 busy_heads [] = 0
-busy_heads (h ∷ heads) = cond (is_idle h.state) 0 1 + busy_heads heads
+busy_heads (h ∷ heads) = (if is_idle h.state then 0 else 1) + busy_heads heads
 
 -- each transaction under way and each commit counted has used up one that was opened
 pub record InBounds (t : Table) : Type 0 where

@@ -1,5 +1,5 @@
 -- The rule book: what each call answers, and the table and lists that it leaves.
-use Rattle.std.specs.Prelude.{ℕ, ◌+◌, ◌-◌, Bool, cond, ◌&&◌, List, [], ◌∷◌, ◌++◌, length, take, drop, replicate, Some, None, Ok, Err, Option, Result, nat_le, slice_set}
+use Rattle.std.specs.Prelude.{ℕ, ◌+◌, ◌-◌, Bool, ◌&&◌, List, [], ◌∷◌, ◌++◌, length, take, drop, replicate, Some, None, Ok, Err, Option, Result, nat_le, if◌then◌else◌}
 use Rattle.std.specs.List.{slice_get}
 use Rattle.parts.specs.declared.types.Cause.{Cause}
 use Rattle.parts.specs.declared.types.Cause.TheVariants.{Capacity, Other, Changed}
@@ -16,9 +16,9 @@ use Rattle.rules.specs.declared.types.Slot.{Slot}
 use Rattle.rules.specs.declared.types.State.TheVariants.{Idle, WritingBack}
 use Rattle.rules.specs.declared.types.Table.{Table}
 use Rattle.rules.specs.Kit.{Kit}
-use Rattle.rules.specs.Logs.{is_empty, word_for, put, noted, lines_of, distinct, put_in, laid}
-use Rattle.rules.specs.Heads.{new_head, is_hardware, abort, enter, begin, next_mode, become, cancel, wrote, resnap, read_more, wrote_more}
-use Rattle.rules.specs.Bench.{Bench, bench, table_with, head_at, read_log, write_log, head_set, present, map_at, after_loads, after_store, lock_out, is_valid, checked}
+use Rattle.rules.specs.Logs.{is_empty, word_for, put, note, lines_of, distinct_count, put_in, slots_with}
+use Rattle.rules.specs.Heads.{new_head, is_hardware, empty_logs, abort, enter, begin, next_mode, stores_after}
+use Rattle.rules.specs.Bench.{Bench, head_at, read_log, write_log, table_with, present_snapshot, map_at, after_loads, after_store, lock_out, is_valid, cells_validated}
 use Rattle.rules.specs.Refusals.{refusal}
 
 -- what a call answers and leaves
@@ -41,19 +41,19 @@ new_table heads cells = record {
 }
 
 abbrev pub set_up : ℕ → ℕ → Result Table Refusal
-set_up heads cells = cond (in_range heads cells) (Ok (new_table heads cells)) (Err refuse.OutOfRange)
+set_up heads cells = if in_range heads cells then Ok (new_table heads cells) else Err refuse.OutOfRange
 
 -- a refusal changes nothing
-abbrev pub refused : {A W : Type 0} → Bench W → Refusal → Outcome A W
-refused b e = record { answer = Err e; left = b }
+abbrev pub refuses : {A W : Type 0} → Bench W → Refusal → Outcome A W
+refuses b e = record { answer = Err e; left = b }
 
 abbrev pub unless : {A W : Type 0} → Option Refusal → Bench W → Outcome A W → Outcome A W
 unless None b granted = granted
-unless (Some e) b granted = refused b e
+unless (Some e) b granted = refuses b e
 
 -- with the word of a cell; whether there is such a cell has been looked for before
 abbrev pub with_word : {A W : Type 0} → Option W → Bench W → (W → Outcome A W) → Outcome A W
-with_word None b granted = refused b refuse.NoCell
+with_word None b granted = refuses b refuse.NoCell
 with_word (Some w) b granted = granted w
 
 -- by the log's word, or else by the cell's
@@ -64,129 +64,143 @@ logged_or (Some w) logged loaded = logged w
 module _ {W : Type 0} (b : Bench W) (k : ℕ) where
   -- another table, and the lists as they are
   abbrev pub leaves : {A : Type 0} → Result A Refusal → Table → Outcome A W
-  leaves answer t = record { answer = answer; left = bench t b.cells b.reads b.writes }
+  leaves answer t = record { answer = answer; left = record b { table = t } }
 
   -- the head k becomes h, and nothing else changes
   abbrev pub becomes : {A : Type 0} → Result A Refusal → Head → Outcome A W
-  becomes answer h = leaves answer (head_set b k b.table.heads h)
+  becomes answer h = leaves answer (table_with b k b.table.heads h)
 
   -- the head k aborts in this call
   abbrev pub aborts_in : {A : Type 0} → List Head → Cause → Head → Outcome A W
-  aborts_in heads cause h = leaves (Err (refuse.Aborted cause)) (head_set b k heads (abort cause h))
+  aborts_in heads cause h = leaves (Err (refuse.Aborted cause)) (table_with b k heads (abort cause h))
 
   -- open: one transaction more, and its first attempt begins in hardware
   abbrev pub granted_open : Outcome Mode W
   granted_open =
-      let t = b.table in
-      let h = begin mode.Hardware (present t) (enter (t.opened + 1) (head_at b k)) in
-      leaves (Ok mode.Hardware) (table_with t (slice_set t.heads k h) t.sequence t.commits (t.opened + 1))
+      let n = b.table.opened + 1 in
+      let h = begin mode.Hardware (present_snapshot b.table) (enter n (head_at b k)) in
+      leaves (Ok mode.Hardware) (record (table_with b k b.table.heads h) { opened = n })
 
-  -- push: one slot more is written back, and whether it is the last
+  -- push: the next slot goes into its cell; the last one frees the lock
   abbrev pub is_last : Bool
   is_last = nat_le (length (write_log b k)) ((head_at b k).written + 1)
 
-  -- it goes into its cell; the last one frees the lock
   abbrev pub granted_push : Outcome ℕ W
   granted_push =
-      let t = b.table in
-      let h = wrote ((head_at b k).written + 1) (head_at b k) in
+      let n = (head_at b k).written + 1 in
+      let h = record (head_at b k) { state = if is_last then Idle else WritingBack; written = n } in
       record {
-        answer = Ok (length (write_log b k) - h.written);
-        left =
-            bench
-            (table_with t (slice_set t.heads k (become (cond is_last Idle WritingBack) h)) (cond is_last (t.sequence + 1) t.sequence) t.commits t.opened)
-            (put_in (take 1 (drop (head_at b k).written (write_log b k))) b.cells) b.reads b.writes;
+        answer = Ok (length (write_log b k) - n);
+        left = record b {
+          table = record (table_with b k b.table.heads h) { sequence = if is_last then b.table.sequence + 1 else b.table.sequence };
+          cells = put_in (take 1 (drop (head_at b k).written (write_log b k))) b.cells;
+        };
       }
 
   -- jolt: the head aborts by an interrupt
   abbrev pub granted_jolt : Outcome (Unit {0}) W
   granted_jolt = aborts_in b.table.heads Other (head_at b k)
 
+  -- drop: the transaction is given up
   abbrev pub granted_drop : Outcome (Unit {0}) W
-  granted_drop = becomes (Ok tt) (cancel (head_at b k))
+  granted_drop = becomes (Ok tt) (record (empty_logs (head_at b k)) { state = Idle })
 
 module _ {W : Type 0} (kit : Kit W) (b : Bench W) (k : ℕ) where
+  -- the head that calls
+  abbrev me : Head
+  me = head_at b k
+
   -- again: the next attempt
   abbrev pub again_mode : Mode
-  again_mode = next_mode kit.next (head_at b k).aborts (head_at b k).state
+  again_mode = next_mode kit.next me.aborts me.state
 
   abbrev pub granted_again : Outcome Mode W
-  granted_again = becomes b k (Ok again_mode) (begin again_mode (present b.table) (head_at b k))
+  granted_again = becomes b k (Ok again_mode) (begin again_mode (present_snapshot b.table) me)
 
   -- read, of a cell that holds w: the word is noted in the read log
-  abbrev pub noting : List Head → Head → ℕ → W → Outcome W W
-  noting heads h c w = record {
-    answer = Ok w;
-    left =
-        bench (head_set b k heads (read_more (length (noted c w (read_log b k))) h)) b.cells
-        (laid k (noted c w (read_log b k)) b.reads) b.writes;
-  }
+  abbrev pub notes_word : List Head → Head → ℕ → W → Outcome W W
+  notes_word heads h c w =
+      let log = note c w (read_log b k) in
+      record {
+        answer = Ok w;
+        left = record b { table = table_with b k heads (record h { reads = length log }); reads = slots_with k log b.reads };
+      }
 
   -- in hardware the attempt must fit with that cell's line touched
   abbrev pub fits_read : ℕ → Bool
-  fits_read c = kit.fits (head_at b k).stores (distinct (kit.line c ∷ lines_of kit.line (read_log b k ++ write_log b k)))
+  fits_read c =
+      kit.fits me.stores (distinct_count (kit.line c ∷ lines_of kit.line (read_log b k ++ write_log b k)))
 
   abbrev pub hardware_read : ℕ → W → Outcome W W
   hardware_read c w =
-      cond (fits_read c) (noting (after_loads kit b k (c ∷ [])) (head_at b k) c w) (aborts_in b k b.table.heads Capacity (head_at b k))
+      if fits_read c
+      then notes_word (after_loads kit b k (c ∷ [])) me c w
+      else aborts_in b k b.table.heads Capacity me
 
   -- in software what was read before must still be valid
   abbrev pub software_read : ℕ → W → Outcome W W
   software_read c w =
-      cond (is_valid kit b k)
-      (noting (after_loads kit b k (checked kit b k ++ (c ∷ []))) (resnap (present b.table) (head_at b k)) c w)
-      (aborts_in b k (after_loads kit b k (checked kit b k)) Changed (head_at b k))
+      let loaded = cells_validated kit b k in
+      if is_valid kit b k
+      then notes_word (after_loads kit b k (loaded ++ (c ∷ []))) (record me { snapshot = present_snapshot b.table }) c w
+      else aborts_in b k (after_loads kit b k loaded) Changed me
 
   abbrev pub granted_read : ℕ → Outcome W W
   granted_read c =
       logged_or (word_for c (write_log b k)) (λ w. leaves b k (Ok w) b.table)
-      (with_word (slice_get b.cells c) b (λ w. cond (is_hardware (head_at b k).state) (hardware_read c w) (software_read c w)))
+      (with_word (slice_get b.cells c) b (λ w. if is_hardware me.state then hardware_read c w else software_read c w))
 
   -- write: the slot is put first, and stays in the list even if the attempt then aborts
-  abbrev pub writing : {A : Type 0} → Result A Refusal → List (Slot W) → List Head → Head → Outcome A W
-  writing answer log heads h = record { answer = answer; left = bench (head_set b k heads h) b.cells b.reads (laid k log b.writes) }
+  abbrev pub puts_word : {A : Type 0} → Result A Refusal → List (Slot W) → List Head → Head → Outcome A W
+  puts_word answer log heads h =
+      record { answer = answer; left = record b { table = table_with b k heads h; writes = slots_with k log b.writes } }
 
   abbrev pub fits_write : List (Slot W) → Head → Bool
-  fits_write log h = kit.fits h.stores (distinct (lines_of kit.line (read_log b k ++ log)))
+  fits_write log h = kit.fits h.stores (distinct_count (lines_of kit.line (read_log b k ++ log)))
 
   abbrev pub hardware_write : ℕ → List (Slot W) → Head → Outcome (Unit {0}) W
   hardware_write c log h =
-      cond (fits_write log h) (writing (Ok tt) log (after_store kit b k c) h)
-      (writing (Err (refuse.Aborted Capacity)) log b.table.heads (abort Capacity h))
-
-  abbrev pub storing : ℕ → List (Slot W) → Head → Outcome (Unit {0}) W
-  storing c log h = cond (is_hardware (head_at b k).state) (hardware_write c log h) (writing (Ok tt) log b.table.heads h)
+      if fits_write log h
+      then puts_word (Ok tt) log (after_store kit b k c) h
+      else puts_word (Err (refuse.Aborted Capacity)) log b.table.heads (abort Capacity h)
 
   abbrev pub granted_write : ℕ → W → Outcome (Unit {0}) W
-  granted_write c w = storing c (put c w (write_log b k)) (wrote_more (length (put c w (write_log b k))) (head_at b k))
+  granted_write c w =
+      let log = put c w (write_log b k) in
+      let h = record me { stores = stores_after me.state me.stores; writes = length log } in
+      if is_hardware me.state then hardware_write c log h else puts_word (Ok tt) log b.table.heads h
 
   -- close: in hardware the write log goes into the cells at once
+  abbrev pub goes_idle : Head
+  goes_idle = record me { state = Idle }
+
   abbrev pub hardware_close : Outcome Closing W
-  hardware_close =
-      let t = b.table in
-      record {
-        answer = Ok (closing.Done (head_at b k).attempts);
-        left =
-            bench (table_with t (slice_set t.heads k (become Idle (head_at b k))) t.sequence (t.commits + 1) t.opened)
-            (put_in (write_log b k) b.cells) b.reads b.writes;
-      }
+  hardware_close = record {
+    answer = Ok (closing.Done me.attempts);
+    left = record b {
+      table = record (table_with b k b.table.heads goes_idle) { commits = b.table.commits + 1 };
+      cells = put_in (write_log b k) b.cells;
+    };
+  }
 
   -- in software the sequence lock is taken, which aborts every hardware head, and the log is pushed slot by slot
   abbrev pub start_write_back : Outcome Closing W
   start_write_back =
-      let t = b.table in
-      let heads = map_at lock_out 0 (after_loads kit b k (checked kit b k)) in
-      let h = become WritingBack (wrote 0 (resnap (present t) (head_at b k))) in
-      leaves b k (Ok (closing.WritingBack (head_at b k).attempts)) (table_with t (slice_set heads k h) (t.sequence + 1) t.commits t.opened)
+      let heads = map_at lock_out 0 (after_loads kit b k (cells_validated kit b k)) in
+      let h = record me { state = WritingBack; written = 0; snapshot = present_snapshot b.table } in
+      leaves b k (Ok (closing.WritingBack h.attempts)) (record (table_with b k heads h) { sequence = b.table.sequence + 1 })
 
   abbrev pub software_close : Outcome Closing W
   software_close =
-      cond (is_valid kit b k) start_write_back (aborts_in b k (after_loads kit b k (checked kit b k)) Changed (head_at b k))
+      if is_valid kit b k
+      then start_write_back
+      else aborts_in b k (after_loads kit b k (cells_validated kit b k)) Changed me
 
   abbrev pub granted_close : Outcome Closing W
   granted_close =
-      cond (is_hardware (head_at b k).state) hardware_close
-      (cond (is_empty (write_log b k)) (becomes b k (Ok (closing.Done (head_at b k).attempts)) (become Idle (head_at b k))) software_close)
+      if is_hardware me.state
+      then hardware_close
+      else (if is_empty (write_log b k) then becomes b k (Ok (closing.Done me.attempts)) goes_idle else software_close)
 
 -- the eight calls, of a caller whose head is k
 module _ {W : Type 0} (kit : Kit W) (b : Bench W) (who : Caller) where

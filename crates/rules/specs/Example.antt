@@ -9,7 +9,7 @@ use Rattle.rules.specs.declared.types.Lent.TheVariants as lent
 use Rattle.rules.specs.declared.types.Made.{Made}
 use Rattle.rules.specs.Kit.{Kit}
 use Rattle.rules.specs.Logs.{slot}
-use Rattle.rules.specs.Bench.{Bench, bench}
+use Rattle.rules.specs.Bench.{Bench}
 use Rattle.rules.specs.Refusals.{by_number}
 use Rattle.rules.specs.Calls.{new_table}
 use Rattle.rules.specs.Answers.{Answer, answer_number, granted_value, refusal_value}
@@ -22,7 +22,9 @@ abbrev pub by_head : ℕ → Call ℕ ℤ → Made ℤ
 by_head k call = record { lent = lent.Right; caller = by_number k; call = call }
 
 abbrev pub two_cells : ℕ → ℕ → Bench ℤ
-two_cells x y = bench (new_table 2 2) (pos x ∷ pos y ∷ []) (replicate 64 (slot 0 (pos 0))) (replicate 64 (slot 0 (pos 0)))
+two_cells x y =
+    let slots = replicate 64 (slot 0 (pos 0)) in
+    record { table = new_table 2 2; cells = pos x ∷ pos y ∷ []; reads = slots; writes = slots }
 
 -- the value of an answer
 abbrev pub cause_shown : Option ℕ → Option ℤ

@@ -2,7 +2,7 @@
 use Rattle.std.specs.Prelude.{◌≡◌, ℕ, ◌<◌, Bool, true, false, ◌&&◌, ◌⊎◌, Err, ◌≢◌}
 use Rattle.parts.specs.declared.types.Cause.{Cause}
 use Rattle.parts.specs.declared.calls.Call.{Call}
-use Rattle.parts.specs.declared.calls.Call.TheVariants.{Open, Read, Write, Close, Push, Jolt, Again, Drop}
+use Rattle.parts.specs.declared.calls.Call.TheVariants.{Close, Push}
 use Rattle.rules.specs.declared.types.Caller.{Caller}
 use Rattle.rules.specs.declared.types.Refusal.{Refusal}
 use Rattle.rules.specs.declared.types.Refusal.TheVariants as refuse
@@ -26,14 +26,9 @@ WrongListsRefused W kit =
 
 -- only a hardware close and a push put words into the cells
 abbrev pub may_write : {W : Type 0} → Bench W → ℕ → Call ℕ W → Bool
-may_write b k Open = false
-may_write b k (Read c) = false
-may_write b k (Write c w) = false
 may_write b k Close = is_hardware (head_at b k).state
 may_write b k Push = true
-may_write b k Jolt = false
-may_write b k Again = false
-may_write b k Drop = false
+may_write b k call = false
 
 -- the cells change only in such a call, and only where it is granted
 abbrev pub CellsChangeByCommits : (W : Type 0) → Kit W → Type 0

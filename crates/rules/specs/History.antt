@@ -1,5 +1,5 @@
 -- What calls and answers alone tell of a run: the commits in their order, every attempt and every transaction.
-use Rattle.std.specs.Prelude.{ℕ, ◌+◌, Bool, true, false, cond, not, ◌&&◌, List, [], ◌∷◌, ◌++◌, length, take, drop, Some, None, Ok, Err, filter, Option, ◌==◌}
+use Rattle.std.specs.Prelude.{ℕ, ◌+◌, Bool, true, false, not, ◌&&◌, List, [], ◌∷◌, ◌++◌, length, take, drop, Some, None, Ok, Err, filter, Option, ◌==◌, if◌then◌else◌}
 use Rattle.parts.specs.declared.calls.Call.{Call}
 use Rattle.parts.specs.declared.calls.Call.TheVariants.{Open, Read, Write, Close, Push, Jolt, Again, Drop}
 use Rattle.rules.specs.declared.types.Closing.{Closing}
@@ -55,8 +55,8 @@ abbrev pub nothing_yet : {W : Type 0} → History W
 nothing_yet = record { closes = []; pages = λ _. blank; past = []; ended = [] }
 
 -- the pages with another one for the head k
-abbrev pub turned : {X : Type 0} → (ℕ → X) → ℕ → X → ℕ → X
-turned pages k page j = cond (j == k) page (pages j)
+abbrev pub pages_with : {X : Type 0} → (ℕ → X) → ℕ → X → ℕ → X
+pages_with pages k page j = if j == k then page else pages j
 
 abbrev pub is_granted : {W : Type 0} → Answer W → Bool
 is_granted (Ok g) = true
@@ -64,21 +64,13 @@ is_granted (Err e) = false
 
 -- the word that a granted read gave
 abbrev pub word_given : {W : Type 0} → Answer W → Option W
-word_given (Ok (granted.Begun m)) = None
 word_given (Ok (granted.Word w)) = Some w
-word_given (Ok granted.Done) = None
-word_given (Ok (granted.Closed c)) = None
-word_given (Ok (granted.Left n)) = None
-word_given (Err e) = None
+word_given answer = None
 
 -- what a granted close gave
 abbrev pub closing_given : {W : Type 0} → Answer W → Option Closing
-closing_given (Ok (granted.Begun m)) = None
-closing_given (Ok (granted.Word w)) = None
-closing_given (Ok granted.Done) = None
 closing_given (Ok (granted.Closed c)) = Some c
-closing_given (Ok (granted.Left n)) = None
-closing_given (Err e) = None
+closing_given answer = None
 
 abbrev pub starts_write_back : Closing → Bool
 starts_write_back (closing.Done n) = false
@@ -86,12 +78,8 @@ starts_write_back (closing.WritingBack n) = true
 
 -- whether a push left no slot
 abbrev pub leaves_none : {W : Type 0} → Answer W → Bool
-leaves_none (Ok (granted.Begun m)) = false
-leaves_none (Ok (granted.Word w)) = false
-leaves_none (Ok granted.Done) = false
-leaves_none (Ok (granted.Closed c)) = false
 leaves_none (Ok (granted.Left n)) = n == 0
-leaves_none (Err e) = false
+leaves_none answer = false
 
 module _ {W : Type 0} (l : History W) (k : ℕ) where
   abbrev page : Page W
@@ -100,82 +88,54 @@ module _ {W : Type 0} (l : History W) (k : ℕ) where
   abbrev count : ℕ
   count = length l.closes
 
-  abbrev new_attempt : Attempt W
-  new_attempt = record { began = count; reads = []; writes = []; closed = None }
+  -- the history with another page of the head k
+  abbrev with_page : Page W → History W
+  with_page p = record l { pages = pages_with l.pages k p }
+
+  -- an attempt of the head k has begun
+  abbrev with_attempt : ℕ → ℕ → History W
+  with_attempt since attempts =
+      let attempt : Attempt W = record { began = count; reads = []; writes = []; closed = None } in
+      record (with_page (record { attempt = attempt; since = since; attempts = attempts; writing_back = false })) { past = page.attempt ∷ l.past }
+
+  -- its transaction has ended
+  abbrev with_end : Option ℕ → History W → History W
+  with_end told h =
+      record h { ended = record { head = k; since = page.since; until = count; attempts = page.attempts; told = told } ∷ l.ended }
 
   -- a granted open
   abbrev after_open : History W
-  after_open = record {
-    closes = l.closes;
-    pages = turned l.pages k (record { attempt = new_attempt; since = count; attempts = 1; writing_back = false });
-    past = page.attempt ∷ l.past;
-    ended = l.ended;
-  }
+  after_open = with_attempt count 1
 
   -- a granted again
   abbrev after_again : History W
-  after_again = record {
-    closes = l.closes;
-    pages = turned l.pages k (record { attempt = new_attempt; since = page.since; attempts = page.attempts + 1; writing_back = false });
-    past = page.attempt ∷ l.past;
-    ended = l.ended;
-  }
-
-  abbrev with_attempt : Attempt W → History W
-  with_attempt attempt = record {
-    closes = l.closes;
-    pages = turned l.pages k (record { attempt = attempt; since = page.since; attempts = page.attempts; writing_back = page.writing_back });
-    past = l.past;
-    ended = l.ended;
-  }
+  after_again = with_attempt page.since (page.attempts + 1)
 
   -- a granted read: the word is one from the cells if no earlier granted write of the attempt names the cell
   abbrev after_read : ℕ → W → History W
   after_read c w =
       let a = page.attempt in
-      cond (names c a.writes) l
-      (with_attempt (record { began = a.began; reads = a.reads ++ (slot c w ∷ []); writes = a.writes; closed = a.closed }))
+      if names c a.writes then l else with_page (record (page) { attempt = record a { reads = a.reads ++ (slot c w ∷ []) } })
 
   abbrev after_write : ℕ → W → History W
   after_write c w =
       let a = page.attempt in
-      with_attempt (record { began = a.began; reads = a.reads; writes = a.writes ++ (slot c w ∷ []); closed = a.closed })
+      with_page (record (page) { attempt = record a { writes = a.writes ++ (slot c w ∷ []) } })
 
   -- a granted close
   abbrev after_close : Closing → History W
   after_close how =
       let a = page.attempt in
-      record {
-        closes = l.closes ++ (record { head = k; writes = a.writes } ∷ []);
-        pages =
-            turned l.pages k
-            (record {
-              attempt = record { began = a.began; reads = a.reads; writes = a.writes; closed = Some count };
-              since = page.since;
-              attempts = page.attempts;
-              writing_back = starts_write_back how;
-            });
-        past = l.past;
-        ended = record { head = k; since = page.since; until = count; attempts = page.attempts; told = Some (attempts_told how) } ∷ l.ended;
-      }
+      let closed = with_page (record (page) { attempt = record a { closed = Some count }; writing_back = starts_write_back how }) in
+      with_end (Some (attempts_told how)) (record closed { closes = l.closes ++ (record { head = k; writes = a.writes } ∷ []) })
 
   -- a push that leaves no slot
   abbrev after_push : History W
-  after_push = record {
-    closes = l.closes;
-    pages = turned l.pages k (record { attempt = page.attempt; since = page.since; attempts = page.attempts; writing_back = false });
-    past = l.past;
-    ended = l.ended;
-  }
+  after_push = with_page (record (page) { writing_back = false })
 
   -- a granted drop
   abbrev after_drop : History W
-  after_drop = record {
-    closes = l.closes;
-    pages = l.pages;
-    past = l.past;
-    ended = record { head = k; since = page.since; until = count; attempts = page.attempts; told = None } ∷ l.ended;
-  }
+  after_drop = with_end None l
 
   abbrev pub by_word : Option W → ℕ → History W
   by_word None c = l
@@ -186,21 +146,21 @@ module _ {W : Type 0} (l : History W) (k : ℕ) where
   by_closing (Some how) = after_close how
 
   -- the history after one more call of the head k and its answer
-  abbrev pub entered : Call ℕ W → Answer W → History W
-  entered Open answer = cond (is_granted answer) after_open l
-  entered (Read c) answer = by_word (word_given answer) c
-  entered (Write c w) answer = cond (is_granted answer) (after_write c w) l
-  entered Close answer = by_closing (closing_given answer)
-  entered Push answer = cond (leaves_none answer) after_push l
-  entered Jolt answer = l
-  entered Again answer = cond (is_granted answer) after_again l
-  entered Drop answer = cond (is_granted answer) after_drop l
+  abbrev pub history_after : Call ℕ W → Answer W → History W
+  history_after Open answer = if is_granted answer then after_open else l
+  history_after (Read c) answer = by_word (word_given answer) c
+  history_after (Write c w) answer = if is_granted answer then after_write c w else l
+  history_after Close answer = by_closing (closing_given answer)
+  history_after Push answer = if leaves_none answer then after_push else l
+  history_after Jolt answer = l
+  history_after Again answer = if is_granted answer then after_again else l
+  history_after Drop answer = if is_granted answer then after_drop else l
 
 -- the history of calls and their answers
 abbrev pub history_of : {W : Type 0} → History W → List (Made W) → List (Answer W) → History W
 history_of l [] answers = l
 history_of l (call ∷ calls) [] = l
-history_of l (call ∷ calls) (a ∷ answers) = history_of (entered l call.caller.head call.call a) calls answers
+history_of l (call ∷ calls) (a ∷ answers) = history_of (history_after l call.caller.head call.call a) calls answers
 
 -- the cells after these closes: each puts its writes in
 abbrev pub cells_after : {W : Type 0} → List (Commit W) → List W → List W

@@ -1,5 +1,5 @@
 -- What a rig is over: a kind of word, a board and a policy.
-use Rattle.std.specs.Prelude.{◌≡◌, ℕ, ◌≤◌, Bool, Decides}
+use Rattle.std.specs.Prelude.{◌≡◌, ℕ, ◌≤◌, Bool, IsTrue, ◌↔◌}
 use Rattle.parts.specs.declared.words.Word.{Ghosts as Words}
 use Rattle.parts.specs.declared.boards.Board.{Ghosts as Boards}
 use Rattle.parts.specs.declared.policies.Policy.{Ghosts as Policies}
@@ -18,17 +18,17 @@ pub record Kit (W : Type 0) : Type 0 where
 -- by what a kind of word, a kind of board and a kind of policy mean, for one board and one policy
 abbrev pub kit_of : {W B P : Type 0} → Words W → Boards B → Policies P → B → P → Kit W
 kit_of words boards policies board policy = record {
-  same = words.alike;
-  line = boards.lined board;
-  fits = boards.fitting board;
-  next = policies.answer policy;
-  patience = policies.patient policy;
+  same = words.same;
+  line = boards.line board;
+  fits = boards.fits board;
+  next = policies.next policy;
+  patience = policies.patience policy;
 }
 
 -- what the traits' laws say of it
 pub record Lawful {W : Type 0} (kit : Kit W) : Type 0 where
   -- two words are the same exactly when they are equal in every part
-  pub exact : (x y : W) → Decides (kit.same x y) (x ≡ y)
+  pub exact : (x y : W) → IsTrue (kit.same x y) ↔ (x ≡ y)
   -- from as many hardware aborts on, the policy says software
   pub ends : (cause : Cause) (aborts : ℕ) → kit.patience ≤ aborts → kit.next cause aborts ≡ mode.Software
   pub some : 1 ≤ kit.patience

@@ -3,10 +3,9 @@ use Rattle.std.specs.Prelude.{◌≡◌, ℕ, ◌+◌, ◌≤◌, false, List, l
 use Rattle.std.specs.List.{slice_get, AllByRecursion}
 use Rattle.rules.specs.declared.types.Made.{Made}
 use Rattle.rules.specs.declared.types.Slot.{Slot}
-use Rattle.rules.specs.declared.types.Table.{Table}
 use Rattle.rules.specs.Kit.{Kit}
 use Rattle.rules.specs.Logs.{is_empty}
-use Rattle.rules.specs.Bench.{bench}
+use Rattle.rules.specs.Bench.{Bench}
 use Rattle.rules.specs.Calls.{set_up}
 use Rattle.rules.specs.Answers.{Answer}
 use Rattle.rules.specs.History.{History, Attempt, Ended, nothing_yet, history_of, cells_after, closes_of_others}
@@ -52,6 +51,5 @@ LawsHold patience cells now calls answers = ThreeLaws patience cells now (histor
 -- the three laws, of every list of calls on every rig that is set up, whatever lists it is lent
 abbrev pub LawsOfRuns : (W : Type 0) → Kit W → Type 0
 LawsOfRuns W kit =
-    (heads count : ℕ) (t : Table) → set_up heads count ≡ Ok t
-    → (cells : List W) (reads writes : List (Slot W)) (calls : List (Made W))
-    → LawsHold kit.patience cells (left_by kit (bench t cells reads writes) calls).cells calls (answers_of kit (bench t cells reads writes) calls)
+    (heads cells : ℕ) (b : Bench W) (calls : List (Made W)) → set_up heads cells ≡ Ok b.table
+    → LawsHold kit.patience b.cells (left_by kit b calls).cells calls (answers_of kit b calls)

@@ -1,6 +1,6 @@
 -- Logs. A log is a list of slots, the lowest first; the lowest slot that names a cell counts.
 use Rattle.std.specs.List.{list_any}
-use Rattle.std.specs.Prelude.{ℕ, suc, ◌+◌, ◌*◌, Bool, true, false, cond, not, ◌&&◌, List, [], ◌∷◌, ◌++◌, map, length, take, drop, Some, None, Option, ◌==◌, nat_eq, nat_le, slice_set}
+use Rattle.std.specs.Prelude.{ℕ, suc, ◌+◌, ◌*◌, Bool, true, false, not, ◌&&◌, List, [], ◌∷◌, ◌++◌, map, length, take, drop, Some, None, Option, ◌==◌, nat_le, slice_set, if◌then◌else◌}
 use Rattle.rules.specs.declared.types.Slot.{Slot}
 
 abbrev pub is_empty : {X : Type 0} → List X → Bool
@@ -12,21 +12,21 @@ slot c w = record { cell = c; word = w }
 
 -- whether the log has a slot for the cell
 abbrev pub names : {W : Type 0} → ℕ → List (Slot W) → Bool
-names c log = list_any (λ s. nat_eq c s.cell) log
+names c log = list_any (λ s. c == s.cell) log
 
 -- the log's word for the cell
 abbrev pub word_for : {W : Type 0} → ℕ → List (Slot W) → Option W
 word_for c [] = None
-word_for c (s ∷ log) = cond (c == s.cell) (Some s.word) (word_for c log)
+word_for c (s ∷ log) = if c == s.cell then Some s.word else word_for c log
 
 -- the log after a write: the cell's slot is replaced, or one is added
 abbrev pub put : {W : Type 0} → ℕ → W → List (Slot W) → List (Slot W)
 put c w [] = slot c w ∷ []
-put c w (s ∷ log) = cond (c == s.cell) (slot c w ∷ log) (s ∷ put c w log)
+put c w (s ∷ log) = if c == s.cell then slot c w ∷ log else s ∷ put c w log
 
 -- the log after a read: a slot is added if the cell has none
-abbrev pub noted : {W : Type 0} → ℕ → W → List (Slot W) → List (Slot W)
-noted c w log = cond (names c log) log (log ++ (slot c w ∷ []))
+abbrev pub note : {W : Type 0} → ℕ → W → List (Slot W) → List (Slot W)
+note c w log = if names c log then log else log ++ (slot c w ∷ [])
 
 -- a new slot is needed for the cell, and the log has 32
 abbrev pub is_full : {W : Type 0} → ℕ → List (Slot W) → Bool
@@ -34,16 +34,16 @@ is_full c log = not (names c log) && nat_le 32 (length log)
 
 -- whether a cell of the log is on the line
 abbrev pub touches : {W : Type 0} → (ℕ → ℕ) → ℕ → List (Slot W) → Bool
-touches line l log = list_any (λ s. nat_eq l (line s.cell)) log
+touches line l log = list_any (λ s. l == line s.cell) log
 
 -- the line of each slot's cell
 abbrev pub lines_of : {W : Type 0} → (ℕ → ℕ) → List (Slot W) → List ℕ
 lines_of line log = map (λ s. line s.cell) log
 
 -- how many different numbers there are
-abbrev pub distinct : List ℕ → ℕ
-distinct [] = 0
-distinct (x ∷ xs) = cond (list_any (nat_eq x) xs) (distinct xs) (suc (distinct xs))
+abbrev pub distinct_count : List ℕ → ℕ
+distinct_count [] = 0
+distinct_count (x ∷ xs) = if list_any (x ==◌) xs then distinct_count xs else suc (distinct_count xs)
 
 -- the cells with the log's words put in, in order; a cell that is not there gets none
 abbrev pub put_in : {W : Type 0} → List (Slot W) → List W → List W
@@ -55,5 +55,5 @@ abbrev pub log_of : {W : Type 0} → ℕ → ℕ → List (Slot W) → List (Slo
 log_of k n slots = take n (drop (32 * k) slots)
 
 -- the slots with a log laid over the first ones of the head k
-abbrev pub laid : {W : Type 0} → ℕ → List (Slot W) → List (Slot W) → List (Slot W)
-laid k log slots = take (32 * k) slots ++ (log ++ drop (32 * k + length log) slots)
+abbrev pub slots_with : {W : Type 0} → ℕ → List (Slot W) → List (Slot W) → List (Slot W)
+slots_with k log slots = take (32 * k) slots ++ (log ++ drop (32 * k + length log) slots)

@@ -9,17 +9,18 @@ use Rattle.rules.specs.Bench.{Bench}
 use Rattle.rules.specs.Answers.{Answer, call_of}
 
 -- a call gets the lists as they are, or one of wrong length, which refuses it
-abbrev pub made_with : {W : Type 0} → Kit W → Bench W → Made W → Lent → Answer W × Bench W
-made_with kit b call lent.Right = call_of kit b call.caller call.call
-made_with kit b call lent.Wrong = (Err refuse.Lists, b)
+abbrev pub step_with : {W : Type 0} → Kit W → Bench W → Made W → Lent → Answer W × Bench W
+step_with kit b call lent.Right = call_of kit b call.caller call.call
+step_with kit b call lent.Wrong = (Err refuse.Lists, b)
 
-abbrev pub made_on : {W : Type 0} → Kit W → Bench W → Made W → Answer W × Bench W
-made_on kit b call = made_with kit b call call.lent
+-- one call of a run: its answer, and what it leaves
+abbrev pub step : {W : Type 0} → Kit W → Bench W → Made W → Answer W × Bench W
+step kit b call = step_with kit b call call.lent
 
 abbrev pub answers_of : {W : Type 0} → Kit W → Bench W → List (Made W) → List (Answer W)
 answers_of kit b [] = []
-answers_of kit b (call ∷ calls) = (made_on kit b call).0 ∷ answers_of kit (made_on kit b call).1 calls
+answers_of kit b (call ∷ calls) = (step kit b call).0 ∷ answers_of kit (step kit b call).1 calls
 
 abbrev pub left_by : {W : Type 0} → Kit W → Bench W → List (Made W) → Bench W
 left_by kit b [] = b
-left_by kit b (call ∷ calls) = left_by kit (made_on kit b call).1 calls
+left_by kit b (call ∷ calls) = left_by kit (step kit b call).1 calls
