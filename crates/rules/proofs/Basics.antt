@@ -1,9 +1,10 @@
 -- What the rules' proof needs of lists, tests and options.
-use Rattle.std.proofs.Common.{◌≡◌, ℕ, zero, suc, Bool, true, false, eqb, ◌⊎◌, List, [], ◌∷◌, ◌++◌, map, set, Some, None, Option, sym, refl, ap, ◌∙◌, subst, inl, inr, ⊎_elim}
-use Rattle.std.specs.List.{slice_get, AllByRecursion, list_any}
+use Rattle.std.proofs.Common.{◌≡◌, ℕ, zero, suc, Bool, true, false, eqb, ◌⊎◌, List, [], ◌∷◌, ◌++◌, map, set, Some, None, Option, sym, refl, ap, ◌∙◌, subst, inl, inr, ⊎_elim, All, get_or}
+use Rattle.std.specs.List.{slice_get, list_any}
 use Rattle.std.specs.Option.{option_map}
 use Rattle.std.proofs.lemmas.Bool.{cases_eq, or_parts, eqb-false, ne_eqb}
 use Rattle.std.proofs.lemmas.Option.{slice_get-map}
+use Rattle.std.proofs.lemmas.List.Elements.{All-nil, All-cons, All-head, All-tail}
 
 -- a property of what a test or an option decides
 pub by-test : (b : Bool) (P : Bool → Type 0) → (b ≡ true → P true) → (b ≡ false → P false) → P b
@@ -34,9 +35,9 @@ module _ {X : Type 0} where
   nth-set-other (z ∷ xs) (suc i) (suc j) x ne = nth-set-other xs i j x (λ e. ne (ap suc e))
 
   -- no element passes
-  pub any_none : (p : X → Bool) (xs : List X) → list_any p xs ≡ false → AllByRecursion (λ x. p x ≡ false) xs
-  any_none p [] e = tt
-  any_none p (x ∷ xs) e = let h = or_parts (p x) (list_any p xs) e in (h.0, any_none p xs h.1)
+  pub any_none : (p : X → Bool) (xs : List X) → list_any p xs ≡ false → All (λ x. p x ≡ false) xs
+  any_none p [] e = All-nil _
+  any_none p (x ∷ xs) e = let h = or_parts (p x) (list_any p xs) e in All-cons (λ x. p x ≡ false) x xs h.0 (any_none p xs h.1)
 
   pub all-map-get : {Y : Type 0} (f : X → Y) (xs : List X) (k : ℕ) (y : Y) → slice_get (map f xs) k ≡ Some y → (x : X) × (slice_get xs k ≡ Some x) × (y ≡ f x)
   all-map-get f [] k y e = cc
@@ -46,17 +47,16 @@ module _ {X : Type 0} where
   pub nth-map-some : {Y : Type 0} (f : X → Y) (xs : List X) (k : ℕ) (x : X) → slice_get xs k ≡ Some x → slice_get (map f xs) k ≡ Some (f x)
   nth-map-some f xs k x e = slice_get-map f xs k ∙ ap (option_map f) e
 
-  pub all_both : (P Q R : X → Type 0) → ((x : X) → P x → Q x → R x) → (xs : List X) → AllByRecursion P xs → AllByRecursion Q xs → AllByRecursion R xs
-  all_both P Q R f [] p q = tt
-  all_both P Q R f (x ∷ xs) p q = (f x p.0 q.0, all_both P Q R f xs p.1 q.1)
+  pub all_both : (P Q R : X → Type 0) → ((x : X) → P x → Q x → R x) → (xs : List X) → All P xs → All Q xs → All R xs
+  all_both P Q R f xs p q k d lt = f (get_or xs k d) (p k d lt) (q k d lt)
 
-  pub all-append-left : (P : X → Type 0) (xs ys : List X) → AllByRecursion P (xs ++ ys) → AllByRecursion P xs
-  all-append-left P [] ys h = tt
-  all-append-left P (x ∷ xs) ys h = (h.0, all-append-left P xs ys h.1)
+  pub all-append-left : (P : X → Type 0) (xs ys : List X) → All P (xs ++ ys) → All P xs
+  all-append-left P [] ys h = All-nil P
+  all-append-left P (x ∷ xs) ys h = All-cons P x xs (All-head P x (xs ++ ys) h) (all-append-left P xs ys (All-tail P x (xs ++ ys) h))
 
-  pub all-append-right : (P : X → Type 0) (xs ys : List X) → AllByRecursion P (xs ++ ys) → AllByRecursion P ys
+  pub all-append-right : (P : X → Type 0) (xs ys : List X) → All P (xs ++ ys) → All P ys
   all-append-right P [] ys h = h
-  all-append-right P (x ∷ xs) ys h = all-append-right P xs ys h.1
+  all-append-right P (x ∷ xs) ys h = all-append-right P xs ys (All-tail P x (xs ++ ys) h)
 
 -- the heads after a turn: this one, or another as it was done to
 pub after_turn : {X : Type 0} (f : X → X) (xs : List X) (h k : ℕ) (me old x : X) → slice_get xs h ≡ Some old → slice_get (set (map f xs) h me) k ≡ Some x

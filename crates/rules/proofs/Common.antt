@@ -1,4 +1,5 @@
 -- What several calls share: when the sequence number is even, what validation gives, and an abort in a head's own call.
+use Rattle.std.specs.Prelude.{All}
 use mathlib.Core.Path.{◌≡◌, refl, sym, ap, subst, ◌∙◌}
 use mathlib.Core.List.{List, map}
 use mathlib.Core.Bool.{Bool, true, false, ◌&&◌, ◌||◌, cond}
@@ -7,15 +8,15 @@ use Prim.Native.Nat.{ℕ, ◌+◌, ◌-◌, ◌≤◌, ◌<◌}
 use native.Mathlib.Omega.{arith}
 use lib.Dec.{eqb}
 use lib.ListN.{length, set, take, drop, take-append-drop}
-use Rattle.std.specs.List.{slice_get, filter, AllByRecursion, list_any, list_all}
+use Rattle.std.specs.List.{slice_get, filter, list_any, list_all}
 use Rattle.std.proofs.lemmas.Bool.{eqb-true, cond-false, or_cases, or_parts, and_parts, cases_lt}
 use Rattle.std.proofs.lemmas.List.{take_all, drop-drop}
-use Rattle.std.proofs.ByRecursion.{All-drop}
+use Rattle.std.proofs.lemmas.List.Elements.{All-drop}
 use Rattle.std.specs.declared.option.Option.TheVariants.{Some}
 use Rattle.parts.specs.declared.types.Cause.{Cause}
 use Rattle.parts.specs.declared.types.Cause.TheVariants.{Conflict, Changed}
 use Rattle.rules.specs.declared.types.State.{State}
-use Rattle.rules.specs.declared.types.State.TheVariants.{Idle, Hardware, Software, Aborted, WritingBack}
+use Rattle.rules.specs.declared.types.State.TheVariants.{Hardware, Aborted}
 use Rattle.rules.specs.Laws.{Agrees}
 use Rattle.rules.specs.Kit.{Kit, Lawful}
 use Rattle.rules.specs.Heads.{is_hardware, is_software, is_aborted}
@@ -34,18 +35,12 @@ gate true x e t = e
 gate false x e t = wrong t
 
 pub software-not-hardware : (s : State) → is_software s ≡ true → is_hardware s ≡ false
-software-not-hardware Idle e = refl
 software-not-hardware Hardware e = wrong e
-software-not-hardware Software e = refl
-software-not-hardware (Aborted c) e = refl
-software-not-hardware WritingBack e = refl
+software-not-hardware s e = refl
 
 pub running-not-aborted : (s : State) → (is_hardware s || is_software s) ≡ true → is_aborted s ≡ false
-running-not-aborted Idle e = refl
-running-not-aborted Hardware e = refl
-running-not-aborted Software e = refl
 running-not-aborted (Aborted c) e = wrong e
-running-not-aborted WritingBack e = refl
+running-not-aborted s e = refl
 
 module _ {W : Type 0} (kit : Kit W) where
   -- a head that loads leave in hardware has no cell of their lines in its write log
@@ -89,9 +84,9 @@ module _ {W : Type 0} (kit : Kit W) (law : Lawful kit) (start : List W) (b : Ben
       let p = s.p in
       let since = (l.pages h).since in
       let going = o.going (running-going me.head.state (software-running me.head.state software)) in
-      let others : AllByRecursion (λ x. eqb h x.head ≡ false) (drop p l.closes) =
-      subst (λ i. AllByRecursion (λ x. eqb h x.head ≡ false) (drop i l.closes)) (omega (arith, s.since))
-      (subst (AllByRecursion (λ x. eqb h x.head ≡ false)) (drop-drop (p - since) since l.closes) (All-drop (λ x. eqb h x.head ≡ false) (p - since) (drop since l.closes) going)) in
+      let others : All (λ x. eqb h x.head ≡ false) (drop p l.closes) =
+      subst (λ i. All (λ x. eqb h x.head ≡ false) (drop i l.closes)) (omega (arith, s.since))
+      (subst (All (λ x. eqb h x.head ≡ false)) (drop-drop (p - since) since l.closes) (All-drop (λ x. eqb h x.head ≡ false) (p - since) (drop since l.closes) going)) in
       let one : 1 ≤ length (filter (is_other h) (drop p l.closes)) =
       ⊎_elim (λ (lt : 0 < length (filter (is_other h) (drop p l.closes))). lt)
       (λ (le : length (filter (is_other h) (drop p l.closes)) ≤ 0).

@@ -1,14 +1,14 @@
 -- How the invariant passes over what a call does to the other heads, and over growing closes.
-use Rattle.std.proofs.Common.{◌≡◌, ℕ, ◌+◌, ◌≤◌, Bool, true, false, cond, ◌||◌, eqb, ◌⊎◌, List, ◌++◌, map, length, drop, set, Some, sym, refl, ap, ◌∙◌, subst, inl, inr, ⊎_elim, arith}
-use Rattle.std.specs.List.{slice_get, AllByRecursion}
+use Rattle.std.proofs.Common.{◌≡◌, ℕ, ◌+◌, ◌≤◌, Bool, true, false, cond, ◌||◌, eqb, ◌⊎◌, List, ◌++◌, map, length, drop, set, Some, sym, refl, ap, ◌∙◌, subst, inl, inr, ⊎_elim, arith, All}
+use Rattle.std.specs.List.{slice_get}
 use Rattle.std.proofs.lemmas.Bool.{cases_eq, or_left, and_parts, cond-true}
 use Rattle.std.proofs.lemmas.List.{take-append-le, drop-append-le, length-append}
-use Rattle.std.proofs.ByRecursion.{All-append, All-weaker}
+use Rattle.std.proofs.lemmas.List.Elements.{All-append, All-weaker, All-nil}
 use Rattle.parts.specs.declared.types.Cause.{Cause}
 use Rattle.parts.specs.declared.types.Cause.TheVariants.{Conflict, Lock}
 use Rattle.rules.specs.declared.types.Slot.{Slot}
 use Rattle.rules.specs.declared.types.State.{State}
-use Rattle.rules.specs.declared.types.State.TheVariants.{Idle, Hardware, Software, Aborted, WritingBack}
+use Rattle.rules.specs.declared.types.State.TheVariants.{Software, WritingBack}
 use Rattle.rules.specs.Kit.{Kit}
 use Rattle.rules.specs.Heads.{is_hardware, is_software, is_aborted, is_writing_back}
 use Rattle.rules.specs.Bench.{is_odd, is_locked_out}
@@ -21,18 +21,12 @@ use Rattle.rules.proofs.HistoryLaws.{count-stable, count-grown, explained-grown}
 use Rattle.rules.proofs.Invariant.{SoftwareOk, HeadOk, Lone, Calm, Clear, Inv}
 
 pub hardware-not-writing : (s : State) → is_hardware s ≡ true → is_writing_back s ≡ false
-hardware-not-writing Idle e = refl
-hardware-not-writing Hardware e = refl
-hardware-not-writing Software e = refl
-hardware-not-writing (Aborted c) e = refl
 hardware-not-writing WritingBack e = wrong e
+hardware-not-writing s e = refl
 
 pub hardware-not-software : (s : State) → is_hardware s ≡ true → is_software s ≡ false
-hardware-not-software Idle e = refl
-hardware-not-software Hardware e = refl
 hardware-not-software Software e = wrong e
-hardware-not-software (Aborted c) e = refl
-hardware-not-software WritingBack e = refl
+hardware-not-software s e = refl
 
 module _ {W : Type 0} where
   -- what a call may do to another head: nothing, or abort it in hardware
@@ -104,7 +98,7 @@ module _ {W : Type 0} (patience : ℕ) (start : List W) (S C : ℕ) (cells : Lis
 
   -- more closes, of other heads, and other cells
   pub head-moved : (S' C' : ℕ) (cells' : List W) (new : List (Commit W)) (k : ℕ) (o : Seat W) (page : Page W)
-      → AllByRecursion (λ s. eqb k s.head ≡ false) new → S ≤ S' → C ≤ C'
+      → All (λ s. eqb k s.head ≡ false) new → S ≤ S' → C ≤ C'
       → (is_hardware o.head.state ≡ true → Agrees cells' o.reads)
       → (SoftwareOk patience start S C cells closes k o page → o.head.snapshot.sequence ≡ S' → o.head.snapshot.commits ≡ C' → Agrees cells' o.reads)
       → HeadOk patience start S C cells closes k o page → HeadOk patience start S' C' cells' (closes ++ new) k o page
@@ -116,7 +110,7 @@ module _ {W : Type 0} (patience : ℕ) (start : List W) (S C : ℕ) (cells : Lis
         since = omega (arith, ok.since);
         mark = ok.mark;
         going =
-            λ e. subst (λ cs. AllByRecursion (λ s. eqb k s.head ≡ false) cs) (sym (drop-append-le page.since closes new ok.since))
+            λ e. subst (λ cs. All (λ s. eqb k s.head ≡ false) cs) (sym (drop-append-le page.since closes new ok.since))
             (All-append (λ s. eqb k s.head ≡ false) (drop page.since closes) new (ok.going e) apart);
         live = ok.live;
         hardware = λ e. let h = ok.hardware e in record { valid = hardware e; under = h.under; budget = omega (arith, h.budget) };
@@ -184,9 +178,9 @@ module _ {W : Type 0} (kit : Kit W) (start : List W) (m : Rig W) (l : History W)
       → (is_odd m.sequence ≡ true → is_hardware me'.head.state ≡ false)
       → ((k : ℕ) (it : Seat W) → slice_get m.heads k ≡ Some it → (k ≡ h → ⊥) → is_hardware me'.head.state ≡ true → is_hardware it.head.state ≡ true
       → is_hardware (f it).head.state ≡ true → Clear kit me' it × Clear kit it me')
-      → AllByRecursion (Explained start l) past
+      → All (Explained start l) past
       → Explained start l (pages h).attempt
-      → AllByRecursion (Bounded start l kit.patience) ended
+      → All (Bounded start l kit.patience) ended
       → ((pages h).attempts ≤ most_attempts kit.patience (closes_of_others l.closes h (pages h).since (length l.closes)))
       → Inv kit start (record { heads = set (map f m.heads) h me'; sequence = m.sequence; commits = m.commits; cells = m.cells })
       (record { closes = l.closes; pages = pages; past = past; ended = ended })
@@ -240,7 +234,7 @@ module _ {W : Type 0} (kit : Kit W) (start : List W) (m : Rig W) (l : History W)
       → ((k : ℕ) → (k ≡ h → ⊥) → pages k ≡ l.pages k)
       → pages h ≡ page
       → closes ≡ l.closes ++ new
-      → ((k : ℕ) → (k ≡ h → ⊥) → AllByRecursion (λ s. eqb k s.head ≡ false) new)
+      → ((k : ℕ) → (k ≡ h → ⊥) → All (λ s. eqb k s.head ≡ false) new)
       → m.sequence ≤ S
       → m.commits ≤ C
       → ((k : ℕ) (o : Seat W) → slice_get m.heads k ≡ Some o → (k ≡ h → ⊥) → is_hardware o.head.state ≡ true → is_hardware (f o).head.state ≡ true → Agrees cells o.reads)
@@ -250,9 +244,9 @@ module _ {W : Type 0} (kit : Kit W) (start : List W) (m : Rig W) (l : History W)
       → is_hardware me'.head.state ≡ false
       → (is_odd S ≡ false → Calm (set (map f m.heads) h me') cells (cells_after closes start))
       → (is_odd S ≡ true → Lone (set (map f m.heads) h me') cells (cells_after closes start))
-      → AllByRecursion (Explained start l) past
+      → All (Explained start l) past
       → Explained start (record { closes = closes; pages = pages; past = past; ended = ended }) page.attempt
-      → AllByRecursion (Bounded start (record { closes = closes; pages = pages; past = past; ended = ended }) kit.patience) ended
+      → All (Bounded start (record { closes = closes; pages = pages; past = past; ended = ended }) kit.patience) ended
       → (page.attempts ≤ most_attempts kit.patience (closes_of_others closes h page.since (length closes)))
       → Inv kit start (record { heads = set (map f m.heads) h me'; sequence = S; commits = C; cells = cells })
       (record { closes = closes; pages = pages; past = past; ended = ended })
@@ -313,4 +307,4 @@ module _ {W : Type 0} (kit : Kit W) (start : List W) (m : Rig W) (l : History W)
           → SoftwareOk kit.patience start m.sequence m.commits m.cells l.closes k (f y) (l.pages k) → (f y).head.snapshot.sequence ≡ S → (f y).head.snapshot.commits ≡ C → Agrees cells (f y).reads
       software-case k y there (inl e) =
           subst (λ z. SoftwareOk kit.patience start m.sequence m.commits m.cells l.closes k z (l.pages k) → z.head.snapshot.sequence ≡ S → z.head.snapshot.commits ≡ C → Agrees cells z.reads) (sym e) (softv k y there)
-      software-case k y there (inr r) = λ _ _ _. subst (λ z. Agrees cells z.reads) (sym r.2) tt
+      software-case k y there (inr r) = λ _ _ _. subst (λ z. Agrees cells z.reads) (sym r.2) (All-nil _)

@@ -1,8 +1,7 @@
 -- Laws of the order of closes: what stays as it grows, and what a count of closes tells.
-use Rattle.std.proofs.Common.{◌≡◌, ℕ, zero, suc, ◌+◌, ◌≤◌, Bool, false, cond, not, ◌&&◌, eqb, List, [], ◌∷◌, ◌++◌, length, take, drop, filter, sym, refl, ap, ◌∙◌, subst, arith, take-append-drop}
-use Rattle.std.specs.List.{AllByRecursion}
+use Rattle.std.proofs.Common.{◌≡◌, ℕ, zero, suc, ◌+◌, ◌≤◌, Bool, false, cond, not, ◌&&◌, eqb, List, [], ◌∷◌, ◌++◌, length, take, drop, filter, sym, refl, ap, ◌∙◌, subst, arith, take-append-drop, All}
 use Rattle.std.proofs.lemmas.List.{take_all, take-take, take-append-le, drop-append-le, length-append, length-take-le}
-use Rattle.std.proofs.lemmas.List.Elements.{filter-append}
+use Rattle.std.proofs.lemmas.List.Elements.{filter-append, All-head, All-tail}
 use Rattle.rules.specs.declared.types.Slot.{Slot}
 use Rattle.rules.specs.Logs.{is_empty, put_in}
 use Rattle.rules.specs.History.{History, Commit, Attempt, Ended, cells_after, is_other, closes_of_others}
@@ -60,10 +59,10 @@ module _ {W : Type 0} where
       omega arith
 
   -- closes of others without writes leave the cells as they are
-  pub after-quiet : (k : ℕ) (closes : List (Commit W)) (xs : List W) → AllByRecursion (λ s. eqb k s.head ≡ false) closes → length (filter (is_other k) closes) ≡ 0 → cells_after closes xs ≡ xs
+  pub after-quiet : (k : ℕ) (closes : List (Commit W)) (xs : List W) → All (λ s. eqb k s.head ≡ false) closes → length (filter (is_other k) closes) ≡ 0 → cells_after closes xs ≡ xs
   after-quiet k [] xs a e = refl
   after-quiet k (s ∷ closes) xs a e =
-      quiet (λ h. after-quiet k closes xs a.1 h) s.writes (subst (λ b. length (cond (not b && not (is_empty s.writes)) (s ∷ filter (is_other k) closes) (filter (is_other k) closes)) ≡ 0) a.0 e)
+      quiet (λ h. after-quiet k closes xs (All-tail (λ s. eqb k s.head ≡ false) s closes a) h) s.writes (subst (λ b. length (cond (not b && not (is_empty s.writes)) (s ∷ filter (is_other k) closes) (filter (is_other k) closes)) ≡ 0) (All-head (λ s. eqb k s.head ≡ false) s closes a) e)
     where
       quiet : (length (filter (is_other k) closes) ≡ 0 → cells_after closes xs ≡ xs) → (ws : List (Slot W)) → length (cond (not (is_empty ws)) (s ∷ filter (is_other k) closes) (filter (is_other k) closes)) ≡ 0 → cells_after closes (put_in ws xs) ≡ xs
       quiet go [] h = go h

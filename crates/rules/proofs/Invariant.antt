@@ -1,6 +1,6 @@
 -- What ties the rig to the history, and holds after every call.
-use Rattle.std.proofs.Common.{◌≡◌, ℕ, ◌+◌, ◌<◌, ◌≤◌, true, false, ◌||◌, eqb, List, length, take, drop, Some, None}
-use Rattle.std.specs.List.{slice_get, AllByRecursion}
+use Rattle.std.proofs.Common.{◌≡◌, ℕ, ◌+◌, ◌<◌, ◌≤◌, true, false, ◌||◌, eqb, List, length, take, drop, Some, None, All}
+use Rattle.std.specs.List.{slice_get}
 use Rattle.rules.specs.Logs.{is_empty, names, put_in}
 use Rattle.rules.specs.Kit.{Kit}
 use Rattle.rules.specs.Heads.{is_hardware, is_software, is_aborted, is_writing_back}
@@ -49,7 +49,7 @@ module _ {W : Type 0} (patience : ℕ) (start : List W) (S C : ℕ) (cells : Lis
     pub attempts : page.attempts ≡ me.head.attempts
     pub since : page.since ≤ length closes
     pub mark : page.writing_back ≡ is_writing_back me.head.state
-    pub going : (is_hardware me.head.state || (is_software me.head.state || is_aborted me.head.state)) ≡ true → AllByRecursion (λ s. eqb k s.head ≡ false) (drop page.since closes)
+    pub going : (is_hardware me.head.state || (is_software me.head.state || is_aborted me.head.state)) ≡ true → All (λ s. eqb k s.head ≡ false) (drop page.since closes)
     pub live : (is_hardware me.head.state || is_software me.head.state) ≡ true → Linked me page.attempt
     pub hardware : is_hardware me.head.state ≡ true → HardwareOk k me page
     pub software : is_software me.head.state ≡ true → SoftwareOk k me page
@@ -73,7 +73,7 @@ pub record Calm {W : Type 0} (heads : List (Seat W)) (cells now : List W) : Type
 
 -- no cell of the one's write log is on a line of the other's read log
 abbrev pub Clear : {W : Type 0} → Kit W → Seat W → Seat W → Type 0
-Clear kit me it = AllByRecursion (λ s. meets kit s.cell it.reads ≡ false) me.writes
+Clear kit me it = All (λ s. meets kit s.cell it.reads ≡ false) me.writes
 
 pub record Inv {W : Type 0} (kit : Kit W) (start : List W) (m : Rig W) (l : History W) : Type 0 where
   pub calm : is_odd m.sequence ≡ false → Calm m.heads m.cells (cells_after l.closes start)
@@ -81,7 +81,7 @@ pub record Inv {W : Type 0} (kit : Kit W) (start : List W) (m : Rig W) (l : Hist
   pub heads : (k : ℕ) (me : Seat W) → slice_get m.heads k ≡ Some me → HeadOk kit.patience start m.sequence m.commits m.cells l.closes k me (l.pages k)
   pub clear : (j k : ℕ) (me it : Seat W) → slice_get m.heads j ≡ Some me → slice_get m.heads k ≡ Some it → (j ≡ k → ⊥)
       → is_hardware me.head.state ≡ true → is_hardware it.head.state ≡ true → Clear kit me it
-  pub past : AllByRecursion (Explained start l) l.past
+  pub past : All (Explained start l) l.past
   pub present : (k : ℕ) → Explained start l (l.pages k).attempt
-  pub ended : AllByRecursion (Bounded start l kit.patience) l.ended
+  pub ended : All (Bounded start l kit.patience) l.ended
   pub bound : (k : ℕ) → (l.pages k).attempts ≤ most_attempts kit.patience (closes_of_others l.closes k (l.pages k).since (length l.closes))

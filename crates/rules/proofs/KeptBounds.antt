@@ -1,7 +1,6 @@
 -- Every call keeps the table in bounds and the lists as long as they are.
-use Rattle.std.proofs.Common.{◌≡◌, ℕ, zero, suc, ◌+◌, ◌*◌, ◌/◌, ◌%◌, ◌<◌, ◌≤◌, true, false, cond, not, ◌&&◌, ◌||◌, leb, List, [], ◌∷◌, length, take, drop, set, replicate, Ok, Err, sym, refl, ap, ◌∙◌, arith}
-use Rattle.std.specs.List.{AllByRecursion}
-use Rattle.std.proofs.ByRecursion.{All-get_or}
+use Rattle.std.proofs.Common.{◌≡◌, ℕ, ◌+◌, ◌*◌, ◌/◌, ◌%◌, ◌<◌, ◌≤◌, true, false, cond, not, ◌&&◌, ◌||◌, leb, List, [], ◌∷◌, length, take, drop, set, Ok, Err, sym, refl, ap, ◌∙◌, arith}
+use Rattle.std.proofs.lemmas.List.Elements.{All-get_or, All-replicate}
 use Rattle.std.proofs.lemmas.List.{length-set, length-take}
 use Rattle.std.proofs.lemmas.Bool.{leb-true, leb-false, eqb-false, and_parts}
 use Rattle.parts.specs.declared.types.Cause.{Cause}
@@ -36,10 +35,6 @@ use Rattle.rules.proofs.Cases.{granted_of, by_call, by_read, by-write, by-close}
 use Rattle.rules.proofs.HeadBounds.{new-bounds, open-bounds, abort-bounds, begin-bounds, idle-bounds, back-bounds, cancel-bounds, resnap-bounds, read-bounds, write-bounds}
 use Rattle.rules.proofs.TableBounds.{busy, bounds-with, bounds-stay, bounds-end}
 
-all_replicate : {X : Type 0} (P : X → Type 0) (n : ℕ) (x : X) → P x → AllByRecursion P (replicate n x)
-all_replicate P zero x p = tt
-all_replicate P (suc n) x p = (p, all_replicate P n x p)
-
 pub bounds-at-set-up : BoundsAtSetUp
 bounds-at-set-up heads cells t =
     by-test (in_range heads cells) (λ r. cond r (Ok (new_table heads cells)) (Err refuse.OutOfRange) ≡ Ok t → InBounds t)
@@ -50,7 +45,7 @@ bounds-at-set-up heads cells t =
     new r =
         let p = and_parts (leb 1 heads && leb heads 8) (leb 1 cells && leb cells 1024) r in
         record {
-          heads = all_replicate HeadBounds 8 new_head new-bounds;
+          heads = All-replicate HeadBounds 8 new_head new-bounds;
           eight = refl;
           few_heads = leb-true heads 8 (and_parts (leb 1 heads) (leb heads 8) p.0).1;
           few_cells = leb-true cells 1024 (and_parts (leb 1 cells) (leb cells 1024) p.1).1;

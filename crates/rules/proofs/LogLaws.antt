@@ -1,10 +1,10 @@
 -- Laws of logs: what a write or a read leaves in one, and what putting one into the cells does.
 use Rattle.std.proofs.lemmas.List.Folds.{list_any-append}
-use Rattle.std.proofs.Common.{◌≡◌, ℕ, suc, ◌+◌, ◌≤◌, true, false, cond, not, ◌&&◌, ◌||◌, eqb, leb, List, [], ◌∷◌, ◌++◌, length, set, Some, None, Option, sym, refl, ap, ◌∙◌, subst, ⊎_elim, arith}
-use Rattle.std.specs.List.{slice_get, AllByRecursion, list_all}
+use Rattle.std.proofs.Common.{◌≡◌, ℕ, suc, ◌+◌, ◌≤◌, true, false, cond, not, ◌&&◌, ◌||◌, eqb, leb, List, [], ◌∷◌, ◌++◌, length, set, Some, None, Option, sym, refl, ap, ◌∙◌, subst, ⊎_elim, arith, All}
+use Rattle.std.specs.List.{slice_get, list_all}
 use Rattle.std.proofs.lemmas.Bool.{eqb-true, eqb-false, or_parts, or_cases, and_parts, and_from, leb-false}
 use Rattle.std.proofs.lemmas.List.{set-set, set_comm, length-append}
-use Rattle.std.proofs.ByRecursion.{All-append}
+use Rattle.std.proofs.lemmas.List.Elements.{All-append, All-nil, All-cons, All-head, All-tail}
 use Rattle.rules.specs.declared.types.Slot.{Slot}
 use Rattle.rules.specs.Logs.{slot, is_empty, names, word_for, put, note, is_full, put_in}
 use Rattle.rules.specs.Kit.{Kit, Lawful}
@@ -72,10 +72,10 @@ module _ {W : Type 0} where
   some-push s [] = refl
   some-push s (x ∷ log) = refl
 
-  pub all-put : (P : Slot W → Type 0) (c : ℕ) (w : W) (log : List (Slot W)) → P (slot c w) → AllByRecursion P log → AllByRecursion P (put c w log)
-  all-put P c w [] p h = (p, tt)
+  pub all-put : (P : Slot W → Type 0) (c : ℕ) (w : W) (log : List (Slot W)) → P (slot c w) → All P log → All P (put c w log)
+  all-put P c w [] p h = All-cons P (slot c w) [] p h
   all-put P c w (s ∷ log) p h =
-      by-test (eqb c s.cell) (λ b. AllByRecursion P (cond b (slot c w ∷ log) (s ∷ put c w log))) (λ _. (p, h.1)) (λ _. (h.0, all-put P c w log p h.1))
+      by-test (eqb c s.cell) (λ b. All P (cond b (slot c w ∷ log) (s ∷ put c w log))) (λ _. All-cons P (slot c w) log p (All-tail P s log h)) (λ _. All-cons P s (put c w log) (All-head P s log h) (all-put P c w log p (All-tail P s log h)))
 
   pub word_none : (c : ℕ) (log : List (Slot W)) → word_for c log ≡ None → names c log ≡ false
   word_none c [] e = refl
@@ -89,30 +89,38 @@ module _ {W : Type 0} where
       by-test (eqb c s.cell) (λ b. cond b (Some s.word) (word_for c log) ≡ Some w → (b || names c log) ≡ true)
       (λ _ e. refl) (λ _ e. word_some c w log e) q
 
+  -- the slot's cell has the slot's word
+  abbrev pub AgreesAt : List W → Slot W → Type 0
+  AgreesAt xs s = slice_get xs s.cell ≡ Some s.word
+
   -- two lists of cells that agree with a log have one word where it names a cell
   pub agrees_at : (c : ℕ) (log : List (Slot W)) (xs ys : List W) → names c log ≡ true → Agrees xs log → Agrees ys log → slice_get ys c ≡ slice_get xs c
   agrees_at c [] xs ys e p q = wrong e
   agrees_at c (s ∷ log) xs ys e p q =
       ⊎_elim
       (λ (h : eqb c s.cell ≡ true). let same : c ≡ s.cell = eqb-true c s.cell h in
-      subst (λ i. slice_get ys i ≡ slice_get xs i) (sym same) (q.0 ∙ sym p.0))
-      (λ (h : names c log ≡ true). agrees_at c log xs ys h p.1 q.1)
+      subst (λ i. slice_get ys i ≡ slice_get xs i) (sym same) (All-head (AgreesAt ys) s log q ∙ sym (All-head (AgreesAt xs) s log p)))
+      (λ (h : names c log ≡ true). agrees_at c log xs ys h (All-tail (AgreesAt xs) s log p) (All-tail (AgreesAt ys) s log q))
       (or_cases (eqb c s.cell) (names c log) e)
+
+  -- one slot
+  agrees-one : (c : ℕ) (w : W) (xs : List W) → slice_get xs c ≡ Some w → Agrees xs (slot c w ∷ [])
+  agrees-one c w xs here = All-cons (AgreesAt xs) (slot c w) [] here (All-nil (AgreesAt xs))
 
   pub agrees-noted : (c : ℕ) (w : W) (log : List (Slot W)) (xs : List W) → slice_get xs c ≡ Some w → Agrees xs log → Agrees xs (note c w log)
   agrees-noted c w log xs here h =
       by-test (names c log) (λ b. Agrees xs (cond b log (log ++ (slot c w ∷ [])))) (λ _. h)
-      (λ _. All-append (λ s. slice_get xs s.cell ≡ Some s.word) log (slot c w ∷ []) h (here, tt))
+      (λ _. All-append (AgreesAt xs) log (slot c w ∷ []) h (agrees-one c w xs here))
 
   -- what agrees with the log and the word note agrees with a record of what was read
   pub noted-reads : (c : ℕ) (w : W) (log rs : List (Slot W)) (cells : List W) → slice_get cells c ≡ Some w → Agrees cells log
       → ((xs : List W) → Agrees xs log → Agrees xs rs) → (xs : List W) → Agrees xs (note c w log) → Agrees xs (rs ++ (slot c w ∷ []))
   noted-reads c w log rs cells here now old xs =
       by-test (names c log) (λ b. Agrees xs (cond b log (log ++ (slot c w ∷ []))) → Agrees xs (rs ++ (slot c w ∷ [])))
-      (λ e h. All-append (λ s. slice_get xs s.cell ≡ Some s.word) rs (slot c w ∷ []) (old xs h) (agrees_at c log cells xs e now h ∙ here, tt))
-      (λ e h. All-append (λ s. slice_get xs s.cell ≡ Some s.word) rs (slot c w ∷ [])
-      (old xs (all-append-left (λ s. slice_get xs s.cell ≡ Some s.word) log (slot c w ∷ []) h))
-      (all-append-right (λ s. slice_get xs s.cell ≡ Some s.word) log (slot c w ∷ []) h))
+      (λ e h. All-append (AgreesAt xs) rs (slot c w ∷ []) (old xs h) (agrees-one c w xs (agrees_at c log cells xs e now h ∙ here)))
+      (λ e h. All-append (AgreesAt xs) rs (slot c w ∷ [])
+      (old xs (all-append-left (AgreesAt xs) log (slot c w ∷ []) h))
+      (all-append-right (AgreesAt xs) log (slot c w ∷ []) h))
 
   -- a word that has a slot or finds one free leaves at most 32
   pub few-noted : (c : ℕ) (w : W) (log : List (Slot W)) → length log ≤ 32 → is_full c log ≡ false → length (note c w log) ≤ 32
@@ -141,28 +149,28 @@ module _ {W : Type 0} (kit : Kit W) where
   -- a write to a line that a log does not touch leaves what the log agrees with
   pub agrees-set : (c : ℕ) (w : W) (log : List (Slot W)) (xs : List W) → meets kit c log ≡ false → Agrees xs log → Agrees (set xs c w) log
   agrees-set c w log xs e h =
-      all_both (λ s. eqb (kit.line c) (kit.line s.cell) ≡ false) (λ s. slice_get xs s.cell ≡ Some s.word) (λ s. slice_get (set xs c w) s.cell ≡ Some s.word)
+      all_both (λ s. eqb (kit.line c) (kit.line s.cell) ≡ false) (AgreesAt xs) (λ s. slice_get (set xs c w) s.cell ≡ Some s.word)
       (λ s apart at. nth-set-other xs c s.cell w (λ q. eqb-false (kit.line c) (kit.line s.cell) apart (ap kit.line q)) ∙ at)
       log (any_none (λ s. eqb (kit.line c) (kit.line s.cell)) log e) h
 
-  pub agrees-put-in : (ws log : List (Slot W)) (xs : List W) → AllByRecursion (λ s. meets kit s.cell log ≡ false) ws → Agrees xs log → Agrees (put_in ws xs) log
+  pub agrees-put-in : (ws log : List (Slot W)) (xs : List W) → All (λ s. meets kit s.cell log ≡ false) ws → Agrees xs log → Agrees (put_in ws xs) log
   agrees-put-in [] log xs a h = h
-  agrees-put-in (s ∷ ws) log xs a h = agrees-put-in ws log (set xs s.cell s.word) a.1 (agrees-set s.cell s.word log xs a.0 h)
+  agrees-put-in (s ∷ ws) log xs a h = agrees-put-in ws log (set xs s.cell s.word) (All-tail (λ s. meets kit s.cell log ≡ false) s ws a) (agrees-set s.cell s.word log xs (All-head (λ s. meets kit s.cell log ≡ false) s ws a) h)
 
   -- validation decides agreement
   module _ (law : Lawful kit) (b : Bench W) (k : ℕ) where
     pub check-agrees : (log : List (Slot W)) → list_all (holds kit b k) log ≡ true → Agrees b.cells log
-    check-agrees [] e = tt
+    check-agrees [] e = All-nil (AgreesAt b.cells)
     check-agrees (s ∷ log) e =
         let parts = and_parts (holds kit b k s) (list_all (holds kit b k) log) e in
         let at : slice_get b.cells s.cell ≡ Some s.word =
         by-option (slice_get b.cells s.cell) (λ o. holds_same kit.same s.word o ≡ true → o ≡ Some s.word)
         (λ _ h. wrong h) (λ w _ h. ap Some ((law.exact w s.word).0 h)) parts.0 in
-        (at, check-agrees log parts.1)
+        All-cons (AgreesAt b.cells) s log at (check-agrees log parts.1)
 
     pub agrees-check : (log : List (Slot W)) → Agrees b.cells log → list_all (holds kit b k) log ≡ true
     agrees-check [] h = refl
     agrees-check (s ∷ log) h =
         and_from (holds kit b k s) (list_all (holds kit b k) log)
-        (ap (λ (o : Option W). holds_same kit.same s.word o) h.0 ∙ (law.exact s.word s.word).1 refl)
-        (agrees-check log h.1)
+        (ap (λ (o : Option W). holds_same kit.same s.word o) (All-head (AgreesAt b.cells) s log h) ∙ (law.exact s.word s.word).1 refl)
+        (agrees-check log (All-tail (AgreesAt b.cells) s log h))

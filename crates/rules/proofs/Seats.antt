@@ -1,7 +1,8 @@
 -- The bench seen as heads with their logs: a seat is a head together with its two logs.
-use Rattle.std.proofs.Common.{◌≡◌, ℕ, zero, suc, ◌+◌, ◌<◌, ◌≤◌, Bool, cond, ◌&&◌, List, [], ◌∷◌, map, length, get_or, take, set, Some, sym, refl, ap, ◌∙◌, add-zero, arith}
-use Rattle.std.specs.List.{slice_get, AllByRecursion}
+use Rattle.std.proofs.Common.{◌≡◌, ℕ, zero, suc, ◌+◌, ◌<◌, ◌≤◌, Bool, cond, ◌&&◌, List, [], ◌∷◌, map, length, get_or, take, set, Some, sym, refl, ap, ◌∙◌, add-zero, arith, All}
+use Rattle.std.specs.List.{slice_get}
 use Rattle.std.proofs.lemmas.List.{take-map}
+use Rattle.std.proofs.lemmas.List.Elements.{All-head, All-tail}
 use Rattle.parts.specs.declared.types.Cause.{Cause}
 use Rattle.parts.specs.declared.types.Cause.TheVariants.{Conflict, Lock}
 use Rattle.rules.specs.declared.types.Head.{Head}
@@ -97,24 +98,24 @@ module _ {W : Type 0} where
   -- what is done to the heads, seen with the logs: f to each other one, while the head k becomes h'
   module _ (f : ℕ → Head → Head) (g : Seat W → Seat W) (reads writes reads' writes' : List (Slot W)) (P : Head → Type 0) (k : ℕ) (h' : Head)
       (others : (j : ℕ) (x : Head) → P x → (j ≡ k → ⊥) → seat_at reads' writes' j (f j x) ≡ g (seat_at reads writes j x)) where
-    seats-rest : (i : ℕ) → k < i → (hs : List Head) → AllByRecursion P hs → seats i (map_at f i hs) reads' writes' ≡ map g (seats i hs reads writes)
+    seats-rest : (i : ℕ) → k < i → (hs : List Head) → All P hs → seats i (map_at f i hs) reads' writes' ≡ map g (seats i hs reads writes)
     seats-rest i lt [] p = refl
     seats-rest i lt (x ∷ hs) p =
-        ap (λ s. s ∷ seats (i + 1) (map_at f (i + 1) hs) reads' writes') (others i x p.0 (λ e. absurd (omega arith)))
-        ∙ ap (λ (ss : List (Seat W)). g (seat_at reads writes i x) ∷ ss) (seats-rest (i + 1) (omega arith) hs p.1)
+        ap (λ s. s ∷ seats (i + 1) (map_at f (i + 1) hs) reads' writes') (others i x (All-head P x hs p) (λ e. absurd (omega arith)))
+        ∙ ap (λ (ss : List (Seat W)). g (seat_at reads writes i x) ∷ ss) (seats-rest (i + 1) (omega arith) hs (All-tail P x hs p))
 
-    seats-after : (i j : ℕ) → i + j ≡ k → (hs : List Head) → AllByRecursion P hs
+    seats-after : (i j : ℕ) → i + j ≡ k → (hs : List Head) → All P hs
         → seats i (set (map_at f i hs) j h') reads' writes' ≡ set (map g (seats i hs reads writes)) j (seat_at reads' writes' k h')
     seats-after i j e [] p = refl
     seats-after i zero e (x ∷ hs) p =
         let z : i ≡ k = omega arith in
         ap (λ n. seat_at reads' writes' n h' ∷ seats (i + 1) (map_at f (i + 1) hs) reads' writes') z
-        ∙ ap (λ (ss : List (Seat W)). seat_at reads' writes' k h' ∷ ss) (seats-rest (i + 1) (omega arith) hs p.1)
+        ∙ ap (λ (ss : List (Seat W)). seat_at reads' writes' k h' ∷ ss) (seats-rest (i + 1) (omega arith) hs (All-tail P x hs p))
     seats-after i (suc j) e (x ∷ hs) p =
-        ap (λ s. s ∷ seats (i + 1) (set (map_at f (i + 1) hs) j h') reads' writes') (others i x p.0 (λ (q : i ≡ k). absurd (omega (arith, e, q))))
-        ∙ ap (λ (ss : List (Seat W)). g (seat_at reads writes i x) ∷ ss) (seats-after (i + 1) j (omega arith) hs p.1)
+        ap (λ s. s ∷ seats (i + 1) (set (map_at f (i + 1) hs) j h') reads' writes') (others i x (All-head P x hs p) (λ (q : i ≡ k). absurd (omega (arith, e, q))))
+        ∙ ap (λ (ss : List (Seat W)). g (seat_at reads writes i x) ∷ ss) (seats-after (i + 1) j (omega arith) hs (All-tail P x hs p))
 
-    pub view-after : (n : ℕ) (hs : List Head) → AllByRecursion P hs
+    pub view-after : (n : ℕ) (hs : List Head) → All P hs
         → take n (seats 0 (set (map_at f 0 hs) k h') reads' writes') ≡ set (map g (take n (seats 0 hs reads writes))) k (seat_at reads' writes' k h')
     view-after n hs p =
         let z : 0 + k ≡ k = omega arith in

@@ -1,8 +1,9 @@
 -- Calls that begin or end an attempt and touch nothing else: open, again, jolt and drop.
-use Rattle.std.proofs.Common.{◌≡◌, ℕ, ◌+◌, ◌<◌, ◌≤◌, true, false, ◌||◌, eqb, List, [], length, Some, Ok, sym, refl, ap, ◌∙◌, subst, ⊎_elim, arith}
-use Rattle.std.specs.List.{slice_get, AllByRecursion}
+use Rattle.std.proofs.Common.{◌≡◌, ℕ, ◌+◌, ◌<◌, ◌≤◌, true, false, ◌||◌, eqb, List, [], length, take, Some, Ok, sym, refl, ap, ◌∙◌, subst, ⊎_elim, arith, All}
+use Rattle.std.specs.List.{slice_get}
 use Rattle.std.proofs.lemmas.Bool.{cases_lt}
 use Rattle.std.proofs.lemmas.List.{drop_all}
+use Rattle.std.proofs.lemmas.List.Elements.{All-nil, All-cons}
 use Rattle.parts.specs.declared.types.Cause.{Cause}
 use Rattle.parts.specs.declared.types.Cause.TheVariants.{Conflict, Capacity, Lock, Other, Changed}
 use Rattle.parts.specs.declared.types.Mode.TheVariants as mode
@@ -16,13 +17,14 @@ use Rattle.rules.specs.Bench.{Bench, head_at, present_snapshot, is_odd}
 use Rattle.rules.specs.Calls.{becomes, granted_open, granted_jolt, granted_drop, granted_again, again_mode}
 use Rattle.rules.specs.Answers.{with_answer}
 use Rattle.rules.specs.Bounds.{InBounds}
-use Rattle.rules.specs.History.{History, closes_of_others}
-use Rattle.rules.specs.Laws.{most_attempts}
+use Rattle.rules.specs.History.{History, cells_after, closes_of_others}
+use Rattle.rules.specs.Laws.{Explained, Bounded, most_attempts}
 use Rattle.rules.proofs.Records.{cancel}
 use Rattle.rules.proofs.Basics.{wrong}
 use Rattle.rules.proofs.Admitted.{Sized}
 use Rattle.rules.proofs.Seats.{Seat, Rig, view, seat_of, meets}
 use Rattle.rules.proofs.Views.{seat-there, untouched}
+use Rattle.rules.proofs.LogLaws.{AgreesAt}
 use Rattle.rules.proofs.Invariant.{Inv}
 use Rattle.rules.proofs.Frames.{struck-same, head-aborts, hardware-not-writing}
 use Rattle.rules.proofs.Turns.{quiet_at, turned-here, turned-other, all_true, going-plain, aborted-going, idle-plain}
@@ -56,7 +58,7 @@ module _ {W : Type 0} (kit : Kit W) (law : Lawful kit) (start : List W) (b : Ben
         aborted = λ e. wrong e;
       })
       plain refl (λ _. refl) (λ k it there ne hm. wrong hm) inv.past (inv.present h)
-      ((inv.bound h, λ n e. cc), inv.ended) (inv.bound h))
+      (All-cons (Bounded start l kit.patience) _ l.ended (inv.bound h, λ n e. cc) inv.ended) (inv.bound h))
 
   pub keep-jolt : is_hardware me.head.state ≡ true → Keeps kit start l h Jolt (with_answer (λ _. granted.Done) (granted_jolt b h))
   keep-jolt hardware =
@@ -76,15 +78,15 @@ module _ {W : Type 0} (kit : Kit W) (law : Lawful kit) (start : List W) (b : Ben
         attempts = refl;
         since = omega arith;
         mark = refl;
-        going = λ _. subst (AllByRecursion (λ s. eqb h s.head ≡ false)) (sym (drop_all n l.closes (omega arith))) tt;
-        live = λ _. record { words = λ c. refl; puts = λ xs. refl; some = refl; apart = tt; reads = λ xs a. tt; unclosed = refl };
-        hardware = λ _. record { valid = tt; under = omega (arith, law.some); budget = omega arith };
+        going = λ _. subst (All (λ s. eqb h s.head ≡ false)) (sym (drop_all n l.closes (omega arith))) (All-nil (λ s. eqb h s.head ≡ false));
+        live = λ _. record { words = λ c. refl; puts = λ xs. refl; some = refl; apart = tt; reads = λ xs a. All-nil (AgreesAt xs); unclosed = refl };
+        hardware = λ _. record { valid = All-nil (AgreesAt m.cells); under = omega (arith, law.some); budget = omega arith };
         software = λ e. wrong e;
         aborted = λ e. wrong e;
       })
       (idle-plain me.head.state idle) refl (λ o. wrong (sym even ∙ o))
-      (λ k it there ne hm hi hf. (tt, all_true (λ s. meets kit s.cell [] ≡ false) (λ s. refl) it.writes))
-      (inv.present h, inv.past) (n, omega arith, omega arith, tt, λ q e. cc) inv.ended (omega arith))
+      (λ k it there ne hm hi hf. (All-nil (λ s. meets kit s.cell it.reads ≡ false), all_true (λ s. meets kit s.cell [] ≡ false) (λ s. refl) it.writes))
+      (All-cons (Explained start l) (l.pages h).attempt l.past (inv.present h) inv.past) (n, omega arith, omega arith, All-nil _, λ q e. cc) inv.ended (omega arith))
 
   -- a policy that says hardware has patience left
   patient : (c : Cause) → kit.next c me.head.aborts ≡ mode.Hardware → me.head.aborts < kit.patience
@@ -119,14 +121,14 @@ module _ {W : Type 0} (kit : Kit W) (law : Lawful kit) (start : List W) (b : Ben
         since = o.since;
         mark = refl;
         going = λ _. going;
-        live = λ _. record { words = λ c. refl; puts = λ xs. refl; some = refl; apart = tt; reads = λ xs a. tt; unclosed = refl };
-        hardware = λ _. record { valid = tt; under = stays-hardware me.head.state e; budget = omega (arith, down.budget) };
+        live = λ _. record { words = λ c. refl; puts = λ xs. refl; some = refl; apart = tt; reads = λ xs a. All-nil (AgreesAt xs); unclosed = refl };
+        hardware = λ _. record { valid = All-nil (AgreesAt m.cells); under = stays-hardware me.head.state e; budget = omega (arith, down.budget) };
         software = λ e. wrong e;
         aborted = λ e. wrong e;
       })
       plain refl (λ o. wrong (sym even ∙ o))
-      (λ k it there ne hm hi hf. (tt, all_true (λ s. meets kit s.cell [] ≡ false) (λ s. refl) it.writes))
-      (inv.present h, inv.past) (n, omega arith, omega arith, tt, λ q e. cc) inv.ended bound))
+      (λ k it there ne hm hi hf. (All-nil (λ s. meets kit s.cell it.reads ≡ false), all_true (λ s. meets kit s.cell [] ≡ false) (λ s. refl) it.writes))
+      (All-cons (Explained start l) (l.pages h).attempt l.past (inv.present h) inv.past) (n, omega arith, omega arith, All-nil _, λ q e. cc) inv.ended bound))
       (λ _. keep-alone kit start _ b bounds lists h lt b.table.sequence b.table.commits b.table.opened (begin mode.Software (present_snapshot b.table) (head_at b h)) b.cells b.reads b.writes (untouched b bounds lists h lt)
       (quiet_at kit start m l inv h me at _ (λ o. o) _ _ _ l.ended struck-same
       (λ k ne. turned-other l.pages h _ k ne) (turned-here l.pages h _)
@@ -135,18 +137,18 @@ module _ {W : Type 0} (kit : Kit W) (law : Lawful kit) (start : List W) (b : Ben
         since = o.since;
         mark = refl;
         going = λ _. going;
-        live = λ _. record { words = λ c. refl; puts = λ xs. refl; some = refl; apart = tt; reads = λ xs a. tt; unclosed = refl };
+        live = λ _. record { words = λ c. refl; puts = λ xs. refl; some = refl; apart = tt; reads = λ xs a. All-nil (AgreesAt xs); unclosed = refl };
         hardware = λ e. wrong e;
         software =
             λ _. record {
               even = even;
               low-S = omega arith;
               low-C = omega arith;
-              valid = λ _ _. tt;
+              valid = λ _ _. All-nil (AgreesAt m.cells);
               p = n;
               before = omega arith;
               within = omega arith;
-              valid-then = tt;
+              valid-then = All-nil (AgreesAt (cells_after (take n l.closes) start));
               since = o.since;
               under = down.under;
               budget = omega (arith, down.budget);
@@ -154,4 +156,4 @@ module _ {W : Type 0} (kit : Kit W) (law : Lawful kit) (start : List W) (b : Ben
         aborted = λ e. wrong e;
       })
       plain refl (λ _. refl) (λ k it there ne hm. wrong hm)
-      (inv.present h, inv.past) (n, omega arith, omega arith, tt, λ q e. cc) inv.ended bound))
+      (All-cons (Explained start l) (l.pages h).attempt l.past (inv.present h) inv.past) (n, omega arith, omega arith, All-nil _, λ q e. cc) inv.ended bound))

@@ -1,9 +1,9 @@
 -- A granted close.
-use Rattle.std.proofs.Common.{◌≡◌, ℕ, ◌+◌, ◌%◌, ◌<◌, ◌≤◌, Bool, true, false, not, ◌&&◌, ◌||◌, eqb, List, [], ◌∷◌, ◌++◌, map, length, set, Some, Ok, sym, refl, ap, ◌∙◌, subst, arith}
-use Rattle.std.specs.List.{slice_get, AllByRecursion}
+use Rattle.std.proofs.Common.{◌≡◌, ℕ, ◌+◌, ◌%◌, ◌<◌, ◌≤◌, Bool, true, false, not, ◌&&◌, ◌||◌, eqb, List, [], ◌∷◌, ◌++◌, map, length, set, Some, Ok, sym, refl, ap, ◌∙◌, subst, arith, All}
+use Rattle.std.specs.List.{slice_get}
 use Rattle.std.proofs.lemmas.Bool.{eqb-false, eq-eqb, ne_eqb, cond_both}
 use Rattle.std.proofs.lemmas.List.{length-append, take-append-le}
-use Rattle.std.proofs.ByRecursion.{All-weaker}
+use Rattle.std.proofs.lemmas.List.Elements.{All-weaker, All-cons, All-nil}
 use Rattle.parts.specs.declared.types.Cause.TheVariants.{Changed}
 use Rattle.parts.specs.declared.calls.Call.TheVariants.{Close}
 use Rattle.rules.specs.declared.types.Closing.{Closing}
@@ -105,16 +105,15 @@ module _ {W : Type 0} (kit : Kit W) (law : Lawful kit) (start : List W) (b : Ben
         aborted = λ e. wrong (sym nf ∙ e);
       }
 
-  other-head : (k : ℕ) → (k ≡ h → ⊥) → AllByRecursion (λ s. eqb k s.head ≡ false) (commit ∷ [])
-  other-head k ne = (ne_eqb k h ne, tt)
+  other-head : (k : ℕ) → (k ≡ h → ⊥) → All (λ s. eqb k s.head ≡ false) (commit ∷ [])
+  other-head k ne = All-cons (λ s. eqb k s.head ≡ false) commit [] (ne_eqb k h ne) (All-nil _)
 
-  ended-ok : (writing : Bool) → AllByRecursion (Bounded start (l' writing) kit.patience) (l' writing).ended
+  ended-ok : (writing : Bool) → All (Bounded start (l' writing) kit.patience) (l' writing).ended
   ended-ok writing =
       let o = inv.heads h me at in
-      let stable = count-stable l.closes (commit ∷ []) h (l.pages h).since n (omega arith) in (
-        (omega (arith, inv.bound h), λ k e. cc),
-        All-weaker (Bounded start l kit.patience) (Bounded start (l' writing) kit.patience) (λ x b. bounded-grown start l (l' writing) (commit ∷ []) kit.patience x refl b) l.ended inv.ended,
-      )
+      let stable = count-stable l.closes (commit ∷ []) h (l.pages h).since n (omega arith) in
+      All-cons (Bounded start (l' writing) kit.patience) (end me.head.attempts) l.ended (omega (arith, inv.bound h), λ k e. cc)
+      (All-weaker (Bounded start l kit.patience) (Bounded start (l' writing) kit.patience) (λ x b. bounded-grown start l (l' writing) (commit ∷ []) kit.patience x refl b) l.ended inv.ended)
 
   bound-ok : (l.pages h).attempts ≤ most_attempts kit.patience (closes_of_others closes' h (l.pages h).since (length closes'))
   bound-ok = let more = count-grown l.closes (commit ∷ []) h (l.pages h).since in omega (arith, inv.bound h)

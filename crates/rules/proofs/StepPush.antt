@@ -4,6 +4,7 @@ use Rattle.std.specs.List.{slice_get}
 use Rattle.std.proofs.lemmas.Option.{same_Some}
 use Rattle.std.proofs.lemmas.Bool.{eqb-true, eq-eqb, ne_eqb, leb-true, leb-false}
 use Rattle.std.proofs.lemmas.List.{drop-drop, drop_all}
+use Rattle.std.proofs.lemmas.List.Elements.{All-nil}
 use Rattle.parts.specs.declared.calls.Call.TheVariants.{Push}
 use Rattle.rules.specs.declared.types.Granted.TheVariants as granted
 use Rattle.rules.specs.declared.types.Head.{Head}
@@ -95,7 +96,7 @@ module _ {W : Type 0} (kit : Kit W) (law : Lawful kit) (start : List W) (b : Ben
       let me' = seated (become Idle (wrote (me.head.written + 1) (head_at b h))) in
       moving kit start m l inv h me me' (λ o. o) (m.sequence + 1) m.commits rest [] l.closes
       (pages_with l.pages h freed-page) freed-page l.past l.ended
-      at struck-same (λ k ne. turned-other l.pages h _ k ne) (turned-here l.pages h _) (sym (append-nil l.closes)) (λ k ne. tt) (omega arith) (omega arith)
+      at struck-same (λ k ne. turned-other l.pages h _ k ne) (turned-here l.pages h _) (sym (append-nil l.closes)) (λ k ne. All-nil (λ s. eqb k s.head ≡ false)) (omega arith) (omega arith)
       (λ k it there ne hi _. wrong (sym (lone.no-hardware k it there) ∙ hi))
       (λ k it there s e _. absurd (omega (arith, s.low-S)))
       (record { attempts = o.attempts; since = o.since; mark = refl; going = λ e. wrong e; live = λ e. wrong e; hardware = λ e. wrong e; software = λ e. wrong e; aborted = λ e. wrong e })
@@ -115,7 +116,7 @@ module _ {W : Type 0} (kit : Kit W) (law : Lawful kit) (start : List W) (b : Ben
       let me' = seated (become WritingBack (wrote (me.head.written + 1) (head_at b h))) in
       moving kit start m l inv h me me' (λ o. o) m.sequence m.commits rest [] l.closes
       l.pages (l.pages h) l.past l.ended
-      at struck-same (λ k ne. refl) refl (sym (append-nil l.closes)) (λ k ne. tt) (omega arith) (omega arith)
+      at struck-same (λ k ne. refl) refl (sym (append-nil l.closes)) (λ k ne. All-nil (λ s. eqb k s.head ≡ false)) (omega arith) (omega arith)
       (λ k it there ne hi _. wrong (sym (lone.no-hardware k it there) ∙ hi))
       (λ k it there s e _. wrong (sym s.even ∙ ap is_odd e ∙ odd_now))
       (record { attempts = o.attempts; since = o.since; mark = o.mark ∙ writing; going = λ e. wrong e; live = λ e. wrong e; hardware = λ e. wrong e; software = λ e. wrong e; aborted = λ e. wrong e })

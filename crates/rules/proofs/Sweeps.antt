@@ -7,7 +7,7 @@ use Rattle.parts.specs.declared.types.Cause.TheVariants.{Conflict, Lock}
 use Rattle.rules.specs.declared.types.Head.{Head}
 use Rattle.rules.specs.declared.types.Slot.{Slot}
 use Rattle.rules.specs.declared.types.State.{State}
-use Rattle.rules.specs.declared.types.State.TheVariants.{Idle, Hardware, Software, Aborted, WritingBack}
+use Rattle.rules.specs.declared.types.State.TheVariants.{Hardware}
 use Rattle.rules.specs.Kit.{Kit}
 use Rattle.rules.specs.Heads.{is_hardware, abort}
 use Rattle.rules.specs.Bench.{Bench, map_at, abort_if_hit, after_loads, after_store, hit_by_loads, hit_by_store, lock_out, is_locked_out}
@@ -38,11 +38,8 @@ swept_once f h i (x ∷ xs) = (h i x, swept_once f h (i + 1) xs)
 
 -- only a head in hardware is locked out
 pub locked-out : (s : State) → is_locked_out s ≡ true → is_hardware s ≡ true
-locked-out Idle e = e
 locked-out Hardware e = refl
-locked-out Software e = e
-locked-out (Aborted c) e = e
-locked-out WritingBack e = e
+locked-out s e = e
 
 -- a hardware head that aborts, if it does
 hit-if : (b : Bool) (cause : Cause) (x : Head) → (b ≡ true → is_hardware x.state ≡ true) → Hit x (cond b (abort cause x) x)

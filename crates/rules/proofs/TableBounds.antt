@@ -1,13 +1,12 @@
 -- A sweep of the heads and a new record for one of them keep a table in bounds.
-use Rattle.std.proofs.Common.{◌≡◌, ℕ, zero, suc, ◌+◌, ◌/◌, ◌<◌, ◌≤◌, true, false, cond, List, [], ◌∷◌, length, get_or, set, sym, refl, ap, ◌∙◌, ⊎_elim, arith}
-use Rattle.std.specs.List.{AllByRecursion}
+use Rattle.std.proofs.Common.{◌≡◌, ℕ, zero, suc, ◌+◌, ◌/◌, ◌<◌, ◌≤◌, true, false, cond, List, [], ◌∷◌, length, get_or, set, sym, refl, ap, ◌∙◌, ⊎_elim, arith, All}
 use Rattle.std.proofs.lemmas.List.Elements.{length_all_zip}
-use Rattle.std.proofs.ByRecursion.{All-set}
+use Rattle.std.proofs.lemmas.List.Elements.{All-set, All-cons, All-head, All-tail}
 use Rattle.std.proofs.lemmas.List.{length-set}
 use Rattle.parts.specs.declared.types.Cause.{Cause}
 use Rattle.rules.specs.declared.types.Head.{Head}
 use Rattle.rules.specs.declared.types.State.{State}
-use Rattle.rules.specs.declared.types.State.TheVariants.{Idle, Hardware, Software, Aborted, WritingBack}
+use Rattle.rules.specs.declared.types.State.TheVariants.{Idle}
 use Rattle.rules.specs.declared.types.Table.{Table}
 use Rattle.rules.specs.Heads.{new_head, is_idle, is_hardware, abort}
 use Rattle.rules.specs.Bounds.{HeadBounds, InBounds, busy_heads}
@@ -17,10 +16,7 @@ use Rattle.rules.proofs.HeadBounds.{abort-bounds}
 
 hardware-busy : (s : State) → is_hardware s ≡ true → is_idle s ≡ false
 hardware-busy Idle e = sym e
-hardware-busy Hardware e = refl
-hardware-busy Software e = refl
-hardware-busy (Aborted c) e = refl
-hardware-busy WritingBack e = refl
+hardware-busy s e = refl
 
 -- a head that is hit stays in bounds, and idle or not
 hit-bounds : (x y : Head) → Hit x y → HeadBounds x → HeadBounds y
@@ -34,11 +30,12 @@ hit-idle x y h =
     (λ (q : (is_hardware x.state ≡ true) × ((cause : Cause) × (y ≡ abort cause x))).
     ap (λ (z : Head). is_idle z.state) q.1.1 ∙ sym (hardware-busy x.state q.0)) h
 
-swept-bounds : (xs ys : List Head) → Swept xs ys → AllByRecursion HeadBounds xs → AllByRecursion HeadBounds ys
-swept-bounds [] [] p q = tt
+swept-bounds : (xs ys : List Head) → Swept xs ys → All HeadBounds xs → All HeadBounds ys
+swept-bounds [] [] p q = q
 swept-bounds [] (y ∷ ys) p q = absurd p
 swept-bounds (x ∷ xs) [] p q = absurd p
-swept-bounds (x ∷ xs) (y ∷ ys) p q = (hit-bounds x y p.0 q.0, swept-bounds xs ys p.1 q.1)
+swept-bounds (x ∷ xs) (y ∷ ys) p q =
+    All-cons HeadBounds y ys (hit-bounds x y p.0 (All-head HeadBounds x xs q)) (swept-bounds xs ys p.1 (All-tail HeadBounds x xs q))
 
 -- whether a head has a transaction, as a number
 abbrev pub busy : Head → ℕ

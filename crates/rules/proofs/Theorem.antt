@@ -2,6 +2,7 @@
 use Rattle.std.proofs.Common.{◌≡◌, ℕ, zero, suc, ◌+◌, ◌≤◌, true, false, List, [], ◌∷◌, take, replicate, Some, Err, sym, refl, ap, ◌∙◌, subst, arith}
 use Rattle.std.specs.List.{slice_get}
 use Rattle.std.proofs.lemmas.List.{take-replicate}
+use Rattle.std.proofs.lemmas.List.Elements.{All-nil}
 use Rattle.parts.specs.declared.calls.Call.{Call}
 use Rattle.parts.specs.declared.calls.Call.TheVariants.{Open, Read, Write, Close, Push, Jolt, Again, Drop}
 use Rattle.rules.specs.declared.types.Caller.{Caller}
@@ -19,7 +20,7 @@ use Rattle.rules.specs.Answers.{call_of}
 use Rattle.rules.specs.Bounds.{InBounds}
 use Rattle.rules.specs.Runs.{step_with, step, answers_of, left_by}
 use Rattle.rules.specs.History.{History, blank, nothing_yet, history_after, history_of, cells_after}
-use Rattle.rules.specs.Laws.{ThreeLaws}
+use Rattle.rules.specs.Laws.{ThreeLaws, Explained, Bounded}
 use Rattle.rules.proofs.Records.{bench}
 use Rattle.rules.proofs.Basics.{by-test, wrong}
 use Rattle.rules.proofs.Admitted.{Admitted, admitted}
@@ -38,13 +39,7 @@ module _ {W : Type 0} (kit : Kit W) (law : Lawful kit) (start : List W) where
   -- a refusal leaves the history as it is
   refused-entry : (l : History W) (k : ℕ) (call : Call ℕ W) (e : Refusal) → history_after l k call (Err e) ≡ l
   refused-entry l k Open e = refl
-  refused-entry l k (Read c) e = refl
-  refused-entry l k (Write c w) e = refl
-  refused-entry l k Close e = refl
-  refused-entry l k Push e = refl
-  refused-entry l k Jolt e = refl
-  refused-entry l k Again e = refl
-  refused-entry l k Drop e = refl
+  refused-entry l k call e = refl
 
   module _ (b : Bench W) (l : History W) (inv : Inv kit start (view b) l) (bounds : InBounds b.table) (who : Caller) where
     keep-granted : (call : Call ℕ W) → Admitted b who call → Keeps kit start l who.head call (granted_of kit b who.head call)
@@ -112,9 +107,9 @@ module _ {W : Type 0} (kit : Kit W) (start : List W) where
         subst (λ x. HeadOk kit.patience start 0 0 start [] k x blank) (sym (nth-replicate n new_seat me k there))
         (record { attempts = refl; since = omega arith; mark = refl; going = λ e. wrong e; live = λ e. wrong e; hardware = λ e. wrong e; software = λ e. wrong e; aborted = λ e. wrong e });
     clear = λ j k me it there _ _ hardware _. wrong (subst (λ x. is_hardware x.head.state ≡ true) (nth-replicate n new_seat me j there) hardware);
-    past = tt;
-    present = λ k. (0, omega arith, omega arith, tt, λ q e. cc);
-    ended = tt;
+    past = All-nil (Explained start nothing_yet);
+    present = λ k. (0, omega arith, omega arith, All-nil _, λ q e. cc);
+    ended = All-nil (Bounded start nothing_yet kit.patience);
     bound = λ k. omega arith;
   }
 

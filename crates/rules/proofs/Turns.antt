@@ -1,9 +1,9 @@
 -- What holds of states, and how a quiet call of one head keeps the invariant.
-use Rattle.std.proofs.Common.{◌≡◌, ℕ, ◌≤◌, true, false, ◌||◌, eqb, List, [], ◌∷◌, map, length, set, Some, sym, refl, subst}
-use Rattle.std.specs.List.{slice_get, AllByRecursion}
+use Rattle.std.proofs.Common.{◌≡◌, ℕ, ◌≤◌, true, false, ◌||◌, eqb, List, map, length, set, Some, sym, refl, subst, All, get_or}
+use Rattle.std.specs.List.{slice_get}
 use Rattle.std.proofs.lemmas.Bool.{eq-eqb, ne_eqb, cond-true, cond-false}
 use Rattle.rules.specs.declared.types.State.{State}
-use Rattle.rules.specs.declared.types.State.TheVariants.{Idle, Hardware, Software, Aborted, WritingBack}
+use Rattle.rules.specs.declared.types.State.TheVariants.{Idle, Hardware, Software, WritingBack}
 use Rattle.rules.specs.Kit.{Kit}
 use Rattle.rules.specs.Heads.{is_hardware, is_software, is_aborted, is_writing_back, is_idle}
 use Rattle.rules.specs.Bench.{is_odd}
@@ -20,44 +20,32 @@ turned-here pages h p = cond-true (eqb h h) p (pages h) (eq-eqb h h refl)
 pub turned-other : {X : Type 0} (pages : ℕ → X) (h : ℕ) (p : X) (k : ℕ) → (k ≡ h → ⊥) → pages_with pages h p k ≡ pages k
 turned-other pages h p k ne = cond-false (eqb k h) p (pages k) (ne_eqb k h ne)
 
-pub all_true : {X : Type 0} (P : X → Type 0) → ((x : X) → P x) → (xs : List X) → AllByRecursion P xs
-all_true P f [] = tt
-all_true P f (x ∷ xs) = (f x, all_true P f xs)
+pub all_true : {X : Type 0} (P : X → Type 0) → ((x : X) → P x) → (xs : List X) → All P xs
+all_true P f xs k d lt = f (get_or xs k d)
 
 pub going-plain : (s : State) → (is_hardware s || (is_software s || is_aborted s)) ≡ true → is_writing_back s ≡ false
 going-plain Idle e = wrong e
-going-plain Hardware e = refl
-going-plain Software e = refl
-going-plain (Aborted c) e = refl
 going-plain WritingBack e = wrong e
+going-plain s e = refl
 
 pub running-going : (s : State) → (is_hardware s || is_software s) ≡ true → (is_hardware s || (is_software s || is_aborted s)) ≡ true
-running-going Idle e = wrong e
 running-going Hardware e = refl
 running-going Software e = refl
-running-going (Aborted c) e = wrong e
-running-going WritingBack e = wrong e
+running-going s e = wrong e
 
 pub aborted-going : (s : State) → is_aborted s ≡ true → (is_hardware s || (is_software s || is_aborted s)) ≡ true
 aborted-going Idle e = wrong e
-aborted-going Hardware e = refl
-aborted-going Software e = refl
-aborted-going (Aborted c) e = refl
 aborted-going WritingBack e = wrong e
+aborted-going s e = refl
 
 pub software-running : (s : State) → is_software s ≡ true → (is_hardware s || is_software s) ≡ true
-software-running Idle e = wrong e
 software-running Hardware e = refl
 software-running Software e = refl
-software-running (Aborted c) e = wrong e
-software-running WritingBack e = wrong e
+software-running s e = wrong e
 
 pub idle-plain : (s : State) → is_idle s ≡ true → is_writing_back s ≡ false
-idle-plain Idle e = refl
-idle-plain Hardware e = refl
-idle-plain Software e = refl
-idle-plain (Aborted c) e = refl
 idle-plain WritingBack e = wrong e
+idle-plain s e = refl
 
 module _ {W : Type 0} (kit : Kit W) (start : List W) (m : Rig W) (l : History W) (inv : Inv kit start m l) (h : ℕ) (me : Seat W) (at : slice_get m.heads h ≡ Some me) where
   -- `quiet` where the head's page is given by an equation, and no other head is touched
@@ -71,9 +59,9 @@ module _ {W : Type 0} (kit : Kit W) (start : List W) (m : Rig W) (l : History W)
       → (is_odd m.sequence ≡ true → is_hardware me'.head.state ≡ false)
       → ((k : ℕ) (it : Seat W) → slice_get m.heads k ≡ Some it → (k ≡ h → ⊥) → is_hardware me'.head.state ≡ true → is_hardware it.head.state ≡ true
       → is_hardware (f it).head.state ≡ true → Clear kit me' it × Clear kit it me')
-      → AllByRecursion (Explained start l) past
+      → All (Explained start l) past
       → Explained start l page.attempt
-      → AllByRecursion (Bounded start l kit.patience) ended
+      → All (Bounded start l kit.patience) ended
       → (page.attempts ≤ most_attempts kit.patience (closes_of_others l.closes h page.since (length l.closes)))
       → Inv kit start (record { heads = set (map f m.heads) h me'; sequence = m.sequence; commits = m.commits; cells = m.cells })
       (record { closes = l.closes; pages = pages; past = past; ended = ended })

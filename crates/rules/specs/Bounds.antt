@@ -1,6 +1,5 @@
 -- How large a rig's numbers get, whatever the lists hold: no number ever runs over.
-use Rattle.std.specs.Prelude.{◌≡◌, ℕ, ◌+◌, ◌/◌, ◌≤◌, List, [], ◌∷◌, length, Ok, if◌then◌else◌}
-use Rattle.std.specs.List.{AllByRecursion}
+use Rattle.std.specs.Prelude.{◌≡◌, ℕ, ◌+◌, ◌/◌, ◌≤◌, List, [], ◌∷◌, length, Ok, if◌then◌else◌, All}
 use Rattle.parts.specs.declared.calls.Call.{Call}
 use Rattle.rules.specs.declared.types.Caller.{Caller}
 use Rattle.rules.specs.declared.types.Head.{Head}
@@ -26,7 +25,7 @@ busy_heads (h ∷ heads) = (if is_idle h.state then 0 else 1) + busy_heads heads
 
 -- each transaction under way and each commit counted has used up one that was opened
 pub record InBounds (t : Table) : Type 0 where
-  pub heads : AllByRecursion HeadBounds t.heads
+  pub heads : All HeadBounds t.heads
   pub eight : length t.heads ≡ 8
   pub few_heads : t.head_count ≤ 8
   pub few_cells : t.cell_count ≤ 1024

@@ -1,6 +1,6 @@
 -- The three laws of a run. They speak of calls, answers and cells alone, so every rig that answers alike has them.
-use Rattle.std.specs.Prelude.{◌≡◌, ℕ, ◌+◌, ◌≤◌, false, List, length, take, Some, Ok}
-use Rattle.std.specs.List.{slice_get, AllByRecursion}
+use Rattle.std.specs.Prelude.{◌≡◌, ℕ, ◌+◌, ◌≤◌, false, List, length, take, Some, Ok, All}
+use Rattle.std.specs.List.{slice_get}
 use Rattle.rules.specs.declared.types.Made.{Made}
 use Rattle.rules.specs.declared.types.Slot.{Slot}
 use Rattle.rules.specs.Kit.{Kit}
@@ -13,7 +13,7 @@ use Rattle.rules.specs.Runs.{answers_of, left_by}
 
 -- each word is its cell's word
 abbrev pub Agrees : {W : Type 0} → List W → List (Slot W) → Type 0
-Agrees cells log = AllByRecursion (λ s. slice_get cells s.cell ≡ Some s.word) log
+Agrees cells log = All (λ s. slice_get cells s.cell ≡ Some s.word) log
 
 -- the most attempts of a transaction, by the policy's patience and the closes with writes of other heads since its open
 abbrev pub most_attempts : ℕ → ℕ → ℕ
@@ -38,10 +38,10 @@ pub record ThreeLaws {W : Type 0} (patience : ℕ) (cells now : List W) (l : His
   -- while no head is writing back, the cells are those at set-up with the writes of all closes put in, in order
   pub settled : ((k : ℕ) → (l.pages k).writing_back ≡ false) → now ≡ cells_after l.closes cells
   -- every attempt is explained: the earlier ones, and each head's present or latest one
-  pub explained : AllByRecursion (Explained cells l) l.past
+  pub explained : All (Explained cells l) l.past
   pub explained_now : (k : ℕ) → Explained cells l (l.pages k).attempt
   -- every transaction is bounded: those that have ended, and each head's present one as far as it has come
-  pub bounded : AllByRecursion (Bounded cells l patience) l.ended
+  pub bounded : All (Bounded cells l patience) l.ended
   pub bounded_now : (k : ℕ) → (l.pages k).attempts ≤ most_attempts patience (closes_of_others l.closes k (l.pages k).since (length l.closes))
 
 -- the laws hold of these calls and answers, from these cells to those
