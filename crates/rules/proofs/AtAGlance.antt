@@ -1,5 +1,5 @@
 -- The laws of single calls that can be told at a glance.
-use Rattle.std.proofs.Common.{◌≡◌, ℕ, Bool, true, false, not, ◌&&◌, eqb, leb, List, [], ◌∷◌, get_or, set, Some, None, Ok, Err, Option, sym, refl, ap, ◌∙◌, inl}
+use Rattle.std.proofs.Common.{◌≡◌, ℕ, Bool, true, false, not, ◌&&◌, eqb, leb, List, [], ◌∷◌, get_or, set, Some, None, Ok, Err, Option, sym, refl, ap, ◌∙◌, inl, is_ok}
 use Rattle.std.proofs.lemmas.List.{get_or-set_other}
 use Rattle.std.proofs.lemmas.Bool.{both_ways, not_from_false, eq-eqb, ne_eqb, lt-leb}
 use Rattle.parts.specs.declared.types.Cause.{Cause}
@@ -19,7 +19,6 @@ use Rattle.rules.specs.Bench.{Bench, is_odd, head_at, after_loads, cells_validat
 use Rattle.rules.specs.Refusals.{by_handle, by_number, lists_fit, is_beyond, takes, why_not, waits, lacks_slot, lacks_transaction, lacks_attempt, when, first_found, refusal}
 use Rattle.rules.specs.Calls.{Outcome}
 use Rattle.rules.specs.Answers.{Answer, with_answer, call_of}
-use Rattle.rules.specs.History.{is_granted}
 use Rattle.rules.specs.Glance.{RefusalsChangeNothing, WrongListsRefused, may_write, CellsChangeByCommits, OthersOnlyAbort, HandlesCallAsHeads, StaleHandlesRefused, CallLaws}
 use Rattle.rules.proofs.Basics.{wrong}
 use Rattle.rules.proofs.Sweeps.{Hit, Swept, swept_none, swept-lock, swept_at}
@@ -68,13 +67,13 @@ wrong-lists-refused {W} kit b who call f =
     (λ q. cc)
 
 module _ {W : Type 0} (kit : Kit W) (b : Bench W) (k : ℕ) where
-  cells_stay : (call : Call ℕ W) → (is_granted (granted_of kit b k call).0 && may_write b k call) ≡ false → (granted_of kit b k call).1.cells ≡ b.cells
+  cells_stay : (call : Call ℕ W) → (is_ok (granted_of kit b k call).0 && may_write b k call) ≡ false → (granted_of kit b k call).1.cells ≡ b.cells
   cells_stay Open e = refl
   cells_stay (Read c) e = by_read kit b k c (λ (o : Outcome W W). o.left.cells ≡ b.cells) (λ w. refl) refl (λ _ ys p s w. refl) (λ ys p cause. refl)
   cells_stay (Write c w) e = by-write kit b k c w (λ (o : Outcome (Unit {0}) W). o.left.cells ≡ b.cells) (λ ys p. refl) refl
   cells_stay Close e =
       by-close kit b k
-      (λ (o : Outcome Closing W). (is_granted (with_answer granted.Closed o).0 && may_write b k Close) ≡ false → o.left.cells ≡ b.cells)
+      (λ (o : Outcome Closing W). (is_ok (with_answer granted.Closed o).0 && may_write b k Close) ≡ false → o.left.cells ≡ b.cells)
       (λ t f. absurd (both_ways (is_hardware (head_at b k).state) f t)) (λ _. refl) (λ _ _ _. refl) (λ ys p _. refl) e
   cells_stay Push e = wrong (sym e)
   cells_stay Jolt e = refl
@@ -106,7 +105,7 @@ module _ {W : Type 0} (kit : Kit W) (b : Bench W) (k : ℕ) where
 
 pub cells-change-by-commits : {W : Type 0} (kit : Kit W) → CellsChangeByCommits W kit
 cells-change-by-commits {W} kit b who call =
-    by_call kit b who call (λ (r : Answer W × Bench W). (is_granted r.0 && may_write b who.head call) ≡ false → r.1.cells ≡ b.cells)
+    by_call kit b who call (λ (r : Answer W × Bench W). (is_ok r.0 && may_write b who.head call) ≡ false → r.1.cells ≡ b.cells)
     (λ e _ _. refl) (λ _. cells_stay kit b who.head call)
 
 pub others-only-abort : {W : Type 0} (kit : Kit W) → OthersOnlyAbort W kit

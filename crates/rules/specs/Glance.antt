@@ -1,5 +1,5 @@
 -- Laws of single calls that can be told at a glance.
-use Rattle.std.specs.Prelude.{◌≡◌, ℕ, ◌<◌, Bool, true, false, ◌&&◌, ◌⊎◌, Err, ◌≢◌}
+use Rattle.std.specs.Prelude.{◌≡◌, ℕ, ◌<◌, Bool, true, false, ◌&&◌, ◌⊎◌, Err, ◌≢◌, is_ok}
 use Rattle.parts.specs.declared.types.Cause.{Cause}
 use Rattle.parts.specs.declared.calls.Call.{Call}
 use Rattle.parts.specs.declared.calls.Call.TheVariants.{Close, Push}
@@ -11,7 +11,6 @@ use Rattle.rules.specs.Heads.{is_hardware, abort}
 use Rattle.rules.specs.Bench.{Bench, head_at}
 use Rattle.rules.specs.Refusals.{by_handle, by_number, lists_fit}
 use Rattle.rules.specs.Answers.{call_of}
-use Rattle.rules.specs.History.{is_granted}
 
 -- a refusal other than 6 changes nothing
 abbrev pub RefusalsChangeNothing : (W : Type 0) → Kit W → Type 0
@@ -33,7 +32,7 @@ may_write b k call = false
 -- the cells change only in such a call, and only where it is granted
 abbrev pub CellsChangeByCommits : (W : Type 0) → Kit W → Type 0
 CellsChangeByCommits W kit =
-    (b : Bench W) (who : Caller) (call : Call ℕ W) → (is_granted (call_of kit b who call).0 && may_write b who.head call) ≡ false
+    (b : Bench W) (who : Caller) (call : Call ℕ W) → (is_ok (call_of kit b who call).0 && may_write b who.head call) ≡ false
     → (call_of kit b who call).1.cells ≡ b.cells
 
 -- a call changes another head only by aborting it in hardware

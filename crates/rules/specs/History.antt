@@ -1,7 +1,7 @@
 -- What calls and answers alone tell of a run: the commits in their order, every attempt and every transaction.
-use Rattle.std.specs.Prelude.{ℕ, ◌+◌, Bool, true, false, not, ◌&&◌, List, [], ◌∷◌, ◌++◌, length, take, drop, Some, None, Ok, Err, filter, Option, ◌==◌, if◌then◌else◌}
+use Rattle.std.specs.Prelude.{ℕ, ◌+◌, Bool, true, false, not, ◌&&◌, List, [], ◌∷◌, ◌++◌, length, take, drop, Some, None, Ok, filter, Option, ◌==◌, if◌then◌else◌}
 use Rattle.parts.specs.declared.calls.Call.{Call}
-use Rattle.parts.specs.declared.calls.Call.TheVariants.{Open, Read, Write, Close, Push, Jolt, Again, Drop}
+use Rattle.parts.specs.declared.calls.Call.TheVariants.{Open, Read, Write, Close, Push, Again, Drop}
 use Rattle.rules.specs.declared.types.Closing.{Closing}
 use Rattle.rules.specs.declared.types.Closing.TheVariants as closing
 use Rattle.rules.specs.declared.types.Granted.TheVariants as granted
@@ -58,28 +58,10 @@ nothing_yet = record { closes = []; pages = λ _. blank; past = []; ended = [] }
 abbrev pub pages_with : {X : Type 0} → (ℕ → X) → ℕ → X → ℕ → X
 pages_with pages k page j = if j == k then page else pages j
 
-abbrev pub is_granted : {W : Type 0} → Answer W → Bool
-is_granted (Ok g) = true
-is_granted (Err e) = false
-
--- the word that a granted read gave
-abbrev pub word_given : {W : Type 0} → Answer W → Option W
-word_given (Ok (granted.Word w)) = Some w
-word_given answer = None
-
--- what a granted close gave
-abbrev pub closing_given : {W : Type 0} → Answer W → Option Closing
-closing_given (Ok (granted.Closed c)) = Some c
-closing_given answer = None
-
+-- whether a granted close left writes to be pushed
 abbrev pub starts_write_back : Closing → Bool
 starts_write_back (closing.Done n) = false
 starts_write_back (closing.WritingBack n) = true
-
--- whether a push left no slot
-abbrev pub leaves_none : {W : Type 0} → Answer W → Bool
-leaves_none (Ok (granted.Left n)) = n == 0
-leaves_none answer = false
 
 module _ {W : Type 0} (l : History W) (k : ℕ) where
   abbrev page : Page W
@@ -103,58 +85,39 @@ module _ {W : Type 0} (l : History W) (k : ℕ) where
   with_end told h =
       record h { ended = record { head = k; since = page.since; until = count; attempts = page.attempts; told = told } ∷ l.ended }
 
-  -- a granted open
-  abbrev after_open : History W
-  after_open = with_attempt count 1
-
-  -- a granted again
-  abbrev after_again : History W
-  after_again = with_attempt page.since (page.attempts + 1)
-
   -- a granted read: the word is one from the cells if no earlier granted write of the attempt names the cell
   abbrev after_read : ℕ → W → History W
   after_read c w =
       let a = page.attempt in
-      if names c a.writes then l else with_page (record (page) { attempt = record a { reads = a.reads ++ (slot c w ∷ []) } })
+      if names c a.writes then l else with_page (record page { attempt = record a { reads = a.reads ++ (slot c w ∷ []) } })
 
+  -- a granted write
   abbrev after_write : ℕ → W → History W
   after_write c w =
       let a = page.attempt in
-      with_page (record (page) { attempt = record a { writes = a.writes ++ (slot c w ∷ []) } })
+      with_page (record page { attempt = record a { writes = a.writes ++ (slot c w ∷ []) } })
 
   -- a granted close
   abbrev after_close : Closing → History W
   after_close how =
       let a = page.attempt in
-      let closed = with_page (record (page) { attempt = record a { closed = Some count }; writing_back = starts_write_back how }) in
+      let closed = with_page (record page { attempt = record a { closed = Some count }; writing_back = starts_write_back how }) in
       with_end (Some (attempts_told how)) (record closed { closes = l.closes ++ (record { head = k; writes = a.writes } ∷ []) })
 
-  -- a push that leaves no slot
-  abbrev after_push : History W
-  after_push = with_page (record (page) { writing_back = false })
+  -- a push that leaves so many slots
+  abbrev after_push : ℕ → History W
+  after_push n = if n == 0 then with_page (record page { writing_back = false }) else l
 
-  -- a granted drop
-  abbrev after_drop : History W
-  after_drop = with_end None l
-
-  abbrev pub by_word : Option W → ℕ → History W
-  by_word None c = l
-  by_word (Some w) c = after_read c w
-
-  abbrev pub by_closing : Option Closing → History W
-  by_closing None = l
-  by_closing (Some how) = after_close how
-
-  -- the history after one more call of the head k and its answer
+  -- the history after one more call of the head k: by what a granted call gave; a refusal leaves it as it is, and so does a jolt
   abbrev pub history_after : Call ℕ W → Answer W → History W
-  history_after Open answer = if is_granted answer then after_open else l
-  history_after (Read c) answer = by_word (word_given answer) c
-  history_after (Write c w) answer = if is_granted answer then after_write c w else l
-  history_after Close answer = by_closing (closing_given answer)
-  history_after Push answer = if leaves_none answer then after_push else l
-  history_after Jolt answer = l
-  history_after Again answer = if is_granted answer then after_again else l
-  history_after Drop answer = if is_granted answer then after_drop else l
+  history_after Open (Ok g) = with_attempt count 1
+  history_after (Read c) (Ok (granted.Word w)) = after_read c w
+  history_after (Write c w) (Ok g) = after_write c w
+  history_after Close (Ok (granted.Closed how)) = after_close how
+  history_after Push (Ok (granted.Left n)) = after_push n
+  history_after Again (Ok g) = with_attempt page.since (page.attempts + 1)
+  history_after Drop (Ok g) = with_end None l
+  history_after call answer = l
 
 -- the history of calls and their answers
 abbrev pub history_of : {W : Type 0} → History W → List (Made W) → List (Answer W) → History W
