@@ -1,17 +1,22 @@
 // What is proved of the rule book, for every kind of word, every board and every policy: each theorem is the contract
 // of a function that does nothing. Board and policy stay two parameters: the rig that holds both has no calls yet.
 ghost use Rattle.rules.specs.Bounds.{BoundsAtSetUp, BoundsKept};
-ghost use Rattle.rules.specs.Example.{RepricingSheet, SoftwareSheet};
+ghost use Rattle.rules.specs.Example.{RepricingSheet, SoftwareSheet, ValidationSheet, LinesSheet, StoresSheet, LockSheet, RefusalsSheet};
 ghost use Rattle.rules.specs.Glance.{CallLaws};
 ghost use Rattle.rules.specs.Kit.{kit_of};
 ghost use Rattle.rules.specs.Laws.{LawsOfRuns};
 
 use parts::{Board, Policy, Word};
 
-// The rule book gives the calls of two worked examples the answers and the cells of their sheets.
+// The rule book gives the calls of the worked examples the answers and the cells of their sheets.
 pub fn examples_stand()
     ensures repricing { RepricingSheet }
     ensures software { SoftwareSheet }
+    ensures validation { ValidationSheet }
+    ensures lines { LinesSheet }
+    ensures stores { StoresSheet }
+    ensures lock { LockSheet }
+    ensures refusals { RefusalsSheet }
 {}
 
 // A table that is set up is in bounds, and every call keeps it so, whatever the lists hold; no call changes the length of a list.
