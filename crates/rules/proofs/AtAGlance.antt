@@ -1,7 +1,7 @@
 -- The laws of single calls that can be told at a glance.
-use Rattle.std.proofs.Common.{◌≡◌, ℕ, Bool, true, false, not, ◌&&◌, eqb, leb, List, [], ◌∷◌, get_or, set, Some, None, Ok, Err, Option, sym, refl, ap, ◌∙◌, inl, is_ok}
-use Rattle.std.proofs.lemmas.List.{get_or-set_other}
-use Rattle.std.proofs.lemmas.Bool.{both_ways, not_from_false, eq-eqb, ne_eqb, lt-leb}
+use Rattle.std.proofs.Common.{◌≡◌, ℕ, Bool, true, false, not, ◌&&◌, eqb, leb, List, [], ◌∷◌, get_or, set, Some, None, Ok, Err, Option, sym, refl, ap, ◌∙◌, inl, is_ok, ◌+◌, ◌<◌, ◌≤◌, length, All, arith, ⊎_elim, nat_lt}
+use Rattle.std.proofs.lemmas.List.{get_or-set_other, get_or-set_same, set_past}
+use Rattle.std.proofs.lemmas.Bool.{both_ways, not_from_false, eq-eqb, ne_eqb, lt-leb, cond_both, cases_lt, ltb-true}
 use Rattle.parts.specs.declared.types.Cause.{Cause}
 use Rattle.parts.specs.declared.types.Cause.TheVariants.{Capacity, Other, Changed}
 use Rattle.parts.specs.declared.calls.Call.{Call}
@@ -15,14 +15,18 @@ use Rattle.rules.specs.declared.types.Refusal.{Refusal}
 use Rattle.rules.specs.declared.types.Refusal.TheVariants as refuse
 use Rattle.rules.specs.Kit.{Kit}
 use Rattle.rules.specs.Heads.{new_head, is_hardware}
-use Rattle.rules.specs.Bench.{Bench, is_odd, head_at, after_loads, cells_validated, map_at, lock_out}
+use Rattle.rules.specs.Bench.{Bench, is_odd, head_at, after_loads, cells_validated, map_at, lock_out, holds, holds_same, cells_loaded}
 use Rattle.rules.specs.Refusals.{by_handle, by_number, lists_fit, is_beyond, takes, why_not, waits, lacks_slot, lacks_transaction, lacks_attempt, when, first_found, refusal}
 use Rattle.rules.specs.Calls.{Outcome}
 use Rattle.rules.specs.Answers.{Answer, with_answer, call_of}
-use Rattle.rules.specs.Glance.{RefusalsChangeNothing, WrongListsRefused, may_write, CellsChangeByCommits, OthersOnlyAbort, HandlesCallAsHeads, StaleHandlesRefused, CallLaws}
+use Rattle.rules.specs.Glance.{RefusalsChangeNothing, WrongListsRefused, may_write, CellsChangeByCommits, OthersOnlyAbort, HandlesCallAsHeads, StaleHandlesRefused, OpenTakesNextNumber, NumbersStay, StrayCells, CallLaws}
 use Rattle.rules.proofs.Basics.{wrong}
-use Rattle.rules.proofs.Sweeps.{Hit, Swept, swept_none, swept-lock, swept_at}
+use Rattle.rules.proofs.Sweeps.{Hit, Swept, swept_none, swept-lock, swept_at, number-set}
 use Rattle.rules.proofs.Cases.{granted_of, by_call, by_read, by-write, by-close}
+use Rattle.std.proofs.lemmas.List.Elements.{All-nil, All-cons}
+use Rattle.rules.proofs.Admitted.{admitted}
+use Rattle.rules.specs.declared.types.Slot.{Slot}
+use Rattle.std.proofs.lemmas.Option.{slice_get_past}
 
 -- nothing is changed if the answer is a refusal and no abort
 abbrev Stays : {W : Type 0} → Bench W → Answer W × Bench W → Type 0
@@ -146,6 +150,58 @@ stale-handles-refused kit b k n call fit lt ne =
     ∙ ap (λ t. refusal_by b k call false false (not t)) (ne_eqb n (head_at b k).transaction ne) in
     call-is kit b (by_handle k n) call ∙ ap (λ o. settled_by o b (granted_of kit b k call)) is
 
+pub open-takes-next-number : {W : Type 0} (kit : Kit W) → OpenTakesNextNumber W kit
+open-takes-next-number {W} kit b who g bounds e =
+    by_call kit b who Open
+    (λ (r : Answer W × Bench W). r.0 ≡ Ok g → ((head_at r.1 who.head).transaction ≡ b.table.opened + 1) × (r.1.table.opened ≡ b.table.opened + 1))
+    (λ e _ q. cc)
+    (λ q _. let a = admitted b who Open q in
+    (ap (λ (h : Head). h.transaction) (get_or-set_same b.table.heads who.head _ new_head (omega (arith, a.head, bounds.few_heads, bounds.eight))), refl)) e
+
+-- the numbers of all heads, and how many were given, are as before
+abbrev SameNumbers : {W : Type 0} → Bench W → Bench W → Type 0
+SameNumbers b o = ((j : ℕ) → (head_at o j).transaction ≡ (head_at b j).transaction) × (o.table.opened ≡ b.table.opened)
+
+module _ {W : Type 0} (kit : Kit W) (b : Bench W) (k : ℕ) where
+  -- one head has another record of the same transaction, after a sweep
+  number-kept : (ys : List Head) → Swept b.table.heads ys → (h : Head) → h.transaction ≡ (head_at b k).transaction
+      → (j : ℕ) → (get_or (set ys k h) j new_head).transaction ≡ (head_at b j).transaction
+  number-kept ys p h e j = number-set b.table.heads ys k j h p e
+
+  numbers-kept : (call : Call ℕ W) → (call ≡ Open → ⊥) → SameNumbers b (granted_of kit b k call).1
+  numbers-kept Open ne = absurd (ne refl)
+  numbers-kept (Read c) ne =
+      by_read kit b k c (λ (o : Outcome W W). SameNumbers b o.left) (λ w. (λ j. refl, refl)) (λ j. refl, refl)
+      (λ _ ys p s w. (number-kept ys p _ refl, refl)) (λ ys p cause. (number-kept ys p _ refl, refl))
+  numbers-kept (Write c w) ne =
+      by-write kit b k c w (λ (o : Outcome (Unit {0}) W). SameNumbers b o.left) (λ ys p. (number-kept ys p _ refl, refl))
+      (number-kept b.table.heads (swept_none b.table.heads) _ refl, refl)
+  numbers-kept Close ne =
+      by-close kit b k (λ (o : Outcome Closing W). SameNumbers b o.left) (λ _. (number-kept b.table.heads (swept_none b.table.heads) _ refl, refl))
+      (number-kept b.table.heads (swept_none b.table.heads) _ refl, refl)
+      (λ _ _. (number-kept (map_at lock_out 0 (after_loads kit b k (cells_validated kit b k))) (swept-lock kit b k (cells_validated kit b k)) _ refl, refl))
+      (λ ys p. (number-kept ys p _ refl, refl))
+  numbers-kept call ne = (number-kept b.table.heads (swept_none b.table.heads) _ refl, refl)
+
+pub numbers-stay : {W : Type 0} (kit : Kit W) → NumbersStay W kit
+numbers-stay {W} kit b who call ne =
+    by_call kit b who call (λ (r : Answer W × Bench W). SameNumbers b r.1) (λ e _. (λ j. refl, refl)) (λ _. numbers-kept kit b who.head call ne)
+
+pub stray-cells : {W : Type 0} (kit : Kit W) → StrayCells W kit
+stray-cells {W} kit = record { differs = differs; not_loaded = inside; not_written = λ s cells far. set_past cells s.cell s.word far }
+  where
+    differs : (b : Bench W) (k : ℕ) (s : Slot W) → length b.cells ≤ s.cell → holds kit b k s ≡ false
+    differs b k s far = ap (holds_same kit.same s.word) (slice_get_past b.cells s.cell far)
+
+    inside : (b : Bench W) (k : ℕ) (log : List (Slot W)) → All (λ c. c < length b.cells) (cells_loaded kit b k log)
+    inside b k [] = All-nil (λ c. c < length b.cells)
+    inside b k (s ∷ log) =
+        let P : ℕ → Type 0 = λ c. c < length b.cells in
+        let within : holds kit b k s ≡ true → s.cell < length b.cells =
+        λ e. ⊎_elim (λ (lt : s.cell < length b.cells). lt) (λ far. wrong (sym (differs b k s far) ∙ e)) (cases_lt s.cell (length b.cells)) in
+        cond_both (holds kit b k s) _ _ (All P) (λ e. All-cons P s.cell (cells_loaded kit b k log) (within e) (inside b k log))
+        (λ _. cond_both (nat_lt s.cell (length b.cells)) (s.cell ∷ []) [] (All P) (λ e. All-cons P s.cell [] (ltb-true s.cell (length b.cells) e) (All-nil P)) (λ _. All-nil P))
+
 pub call-laws : {W : Type 0} (kit : Kit W) → CallLaws W kit
 call-laws kit = record {
   refusals = refusals-change-nothing kit;
@@ -154,4 +210,7 @@ call-laws kit = record {
   others = others-only-abort kit;
   handles = handles-call-as-heads kit;
   stale = stale-handles-refused kit;
+  opens = open-takes-next-number kit;
+  numbers = numbers-stay kit;
+  stray = stray-cells kit;
 }

@@ -50,6 +50,7 @@ bounds-at-set-up heads cells t =
           few_heads = leb-true heads 8 (and_parts (leb 1 heads) (leb heads 8) p.0).1;
           few_cells = leb-true cells 1024 (and_parts (leb 1 cells) (leb cells 1024) p.1).1;
           opened = omega arith;
+          numbered = All-replicate (λ (h : Head). h.transaction ≤ 0) 8 new_head (omega arith);
           used = omega arith;
         }
 
@@ -90,21 +91,21 @@ module _ {W : Type 0} (kit : Kit W) (b : Bench W) (s : InBounds b.table) (k : �
       let n = b.table.opened + 1 in
       let old : busy h ≡ 0 = ap (λ t. cond t 0 1) idle in (
         bounds-with b.table s k lt heads (swept_none heads) (begin mode.Hardware (present_snapshot b.table) (enter n h)) (open-bounds n (present_snapshot b.table) h)
-            b.table.sequence b.table.commits n (omega arith) (omega arith),
+            b.table.sequence b.table.commits n (omega arith) (omega arith) (omega arith) (omega arith),
         lengths,
       )
 
   -- every other call is one of a transaction
   module _ (going : is_idle h.state ≡ false) where
-    keeps : (ys : List Head) → Swept heads ys → (x : Head) → HeadBounds x → is_idle x.state ≡ false → InBounds (table_with b k ys x)
-    keeps ys p x px e = bounds-stay b.table s k lt ys p x px (e ∙ sym going)
+    keeps : (ys : List Head) → Swept heads ys → (x : Head) → HeadBounds x → is_idle x.state ≡ false → x.transaction ≡ h.transaction → InBounds (table_with b k ys x)
+    keeps ys p x px e number = bounds-stay b.table s k lt ys p x px (e ∙ sym going) number
 
-    ends : (x : Head) → HeadBounds x → is_idle x.state ≡ true → (sequence commits : ℕ) → commits + sequence / 2 ≤ b.table.commits + b.table.sequence / 2 + 1
+    ends : (x : Head) → HeadBounds x → is_idle x.state ≡ true → x.transaction ≡ h.transaction → (sequence commits : ℕ) → commits + sequence / 2 ≤ b.table.commits + b.table.sequence / 2 + 1
         → InBounds (record { heads = set heads k x; head_count = b.table.head_count; cell_count = b.table.cell_count; sequence = sequence; commits = commits; opened = b.table.opened })
-    ends x px e = bounds-end b.table s k lt x px e going
+    ends x px e number = bounds-end b.table s k lt x px e going number
 
     aborted : (ys : List Head) → Swept heads ys → (cause : Cause) → InBounds (table_with b k ys (abort cause h))
-    aborted ys p cause = keeps ys p (abort cause h) (abort-bounds h own cause) refl
+    aborted ys p cause = keeps ys p (abort cause h) (abort-bounds h own cause) refl refl
 
     read_kept : (c : ℕ) → 32 * k + 32 ≤ length b.reads → (not (names c (write_log b k)) && is_full c (read_log b k)) ≡ false → Kept b (granted_read kit b k c).left
     read_kept c room slot =
@@ -113,7 +114,7 @@ module _ {W : Type 0} (kit : Kit W) (b : Bench W) (s : InBounds b.table) (k : �
         let log = note c w (read_log b k) in
         let free : is_full c (read_log b k) ≡ false = sym (ap (λ t. not t && is_full c (read_log b k)) (word_none c (write_log b k) e)) ∙ slot in
         let few : length log ≤ 32 = few-noted c w (read_log b k) (omega (arith, length-log k h.reads b.reads, own.reads)) free in (
-          keeps ys p (read_more (length log) (resnap snap h)) (read-bounds (resnap snap h) (resnap-bounds h own snap) (length log) few) going,
+          keeps ys p (read_more (length log) (resnap snap h)) (read-bounds (resnap snap h) (resnap-bounds h own snap) (length log) few) going refl,
           (refl, length-laid k log b.reads few room, refl),
         ))
         (λ ys p cause. (aborted ys p cause, lengths))
@@ -125,8 +126,8 @@ module _ {W : Type 0} (kit : Kit W) (b : Bench W) (s : InBounds b.table) (k : �
         let x = wrote_more (length log) h in
         let px = write-bounds h own (length log) few not_back in
         let len = length-laid k log b.writes few room in
-        by-write kit b k c w (λ (o : Outcome (Unit {0}) W). Kept b o.left) (λ ys p. (keeps ys p x px going, (refl, refl, len)))
-        (keeps heads (swept_none heads) (abort Capacity x) (abort-bounds x px Capacity) refl, (refl, refl, len))
+        by-write kit b k c w (λ (o : Outcome (Unit {0}) W). Kept b o.left) (λ ys p. (keeps ys p x px going refl, (refl, refl, len)))
+        (keeps heads (swept_none heads) (abort Capacity x) (abort-bounds x px Capacity) refl refl, (refl, refl, len))
 
     -- a head that writes back has taken the lock while it was free, so half of the sequence stays
     starts : is_software h.state ≡ true → is_empty (write_log b k) ≡ false → ((is_software h.state && not (is_empty (write_log b k))) && is_odd b.table.sequence) ≡ false
@@ -138,17 +139,17 @@ module _ {W : Type 0} (kit : Kit W) (b : Bench W) (s : InBounds b.table) (k : �
         let old : busy h ≡ 1 = ap (λ t. cond t 0 1) going in
         bounds-with b.table s k lt (map_at lock_out 0 (after_loads kit b k (cells_validated kit b k))) (swept-lock kit b k (cells_validated kit b k)) (become WritingBack (wrote 0 x))
         (back-bounds x (resnap-bounds h own (present_snapshot b.table)) 0 (omega (arith, some-length (write_log b k) some, length-log k h.writes b.writes)))
-        (b.table.sequence + 1) b.table.commits b.table.opened s.opened (omega (arith, eqb-false (b.table.sequence % 2) 1 even))
+        (b.table.sequence + 1) b.table.commits b.table.opened s.opened (omega arith) (let le = s.numbered k new_head (omega (arith, s.eight)) in omega arith) (omega (arith, eqb-false (b.table.sequence % 2) 1 even))
 
     close-kept : (is_hardware h.state ≡ false → is_software h.state ≡ true)
         → ((is_software h.state && not (is_empty (write_log b k))) && is_odd b.table.sequence) ≡ false → Kept b (granted_close kit b k).left
     close-kept software free =
         by-close kit b k (λ (o : Outcome Closing W). Kept b o.left)
         (λ _. (
-          ends (become Idle h) (idle-bounds h own h.written) refl b.table.sequence (b.table.commits + 1) (omega arith),
+          ends (become Idle h) (idle-bounds h own h.written) refl refl b.table.sequence (b.table.commits + 1) (omega arith),
           (length-put-in (write_log b k) b.cells, refl, refl),
         ))
-        (ends (become Idle h) (idle-bounds h own h.written) refl b.table.sequence b.table.commits (omega arith), lengths)
+        (ends (become Idle h) (idle-bounds h own h.written) refl refl b.table.sequence b.table.commits (omega arith), lengths)
         (λ f some. (starts (software f) some free, lengths)) (λ ys p. (aborted ys p Changed, lengths))
 
     push_kept : Kept b (granted_push b k).left
@@ -163,9 +164,9 @@ module _ {W : Type 0} (kit : Kit W) (b : Bench W) (s : InBounds b.table) (k : �
                 commits = b.table.commits;
                 opened = b.table.opened;
               }))
-              (λ _. ends (become Idle x) (idle-bounds h own (h.written + 1)) refl (b.table.sequence + 1) b.table.commits (omega arith))
+              (λ _. ends (become Idle x) (idle-bounds h own (h.written + 1)) refl refl (b.table.sequence + 1) b.table.commits (omega arith))
               (λ f. keeps heads (swept_none heads) (become WritingBack x)
-              (back-bounds h own (h.written + 1) (omega (arith, leb-false (length (write_log b k)) (h.written + 1) f, length-log k h.writes b.writes))) refl),
+              (back-bounds h own (h.written + 1) (omega (arith, leb-false (length (write_log b k)) (h.written + 1) f, length-log k h.writes b.writes))) refl refl),
           (length-put-in (take 1 (drop h.written (write_log b k))) b.cells, refl, refl),
         )
 
@@ -175,10 +176,10 @@ module _ {W : Type 0} (kit : Kit W) (b : Bench W) (s : InBounds b.table) (k : �
     again_kept : h.attempts < 70_000 → Kept b (granted_again kit b k).left
     again_kept few =
         let m = again_mode kit b k in
-        (keeps heads (swept_none heads) (begin m (present_snapshot b.table) h) (begin-bounds h own m (present_snapshot b.table) few) (begun-busy m), lengths)
+        (keeps heads (swept_none heads) (begin m (present_snapshot b.table) h) (begin-bounds h own m (present_snapshot b.table) few) (begun-busy m) refl, lengths)
 
     drop-kept : Kept b (granted_drop b k).left
-    drop-kept = (ends (cancel h) (cancel-bounds h own) refl b.table.sequence b.table.commits (omega arith), lengths)
+    drop-kept = (ends (cancel h) (cancel-bounds h own) refl refl b.table.sequence b.table.commits (omega arith), lengths)
 
 module _ {W : Type 0} (kit : Kit W) (b : Bench W) (s : InBounds b.table) (who : Caller) where
   abbrev k : ℕ

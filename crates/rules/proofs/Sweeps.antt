@@ -1,5 +1,5 @@
 -- What a call does to the other heads: each stays as it was, or aborts in hardware.
-use Rattle.std.proofs.Common.{◌≡◌, ℕ, zero, suc, ◌+◌, Bool, true, cond, not, ◌&&◌, eqb, ◌⊎◌, List, [], ◌∷◌, get_or, refl, ap, inl, inr, ⊎_elim}
+use Rattle.std.proofs.Common.{◌≡◌, ℕ, zero, suc, ◌+◌, Bool, true, cond, not, ◌&&◌, eqb, ◌⊎◌, List, [], ◌∷◌, get_or, refl, ap, inl, inr, ⊎_elim, set}
 use Rattle.std.specs.List.{AllZip}
 use Rattle.std.proofs.lemmas.Bool.{and_parts, cond_both}
 use Rattle.parts.specs.declared.types.Cause.{Cause}
@@ -9,7 +9,7 @@ use Rattle.rules.specs.declared.types.Slot.{Slot}
 use Rattle.rules.specs.declared.types.State.{State}
 use Rattle.rules.specs.declared.types.State.TheVariants.{Hardware}
 use Rattle.rules.specs.Kit.{Kit}
-use Rattle.rules.specs.Heads.{is_hardware, abort}
+use Rattle.rules.specs.Heads.{is_hardware, abort, new_head}
 use Rattle.rules.specs.Bench.{Bench, map_at, abort_if_hit, after_loads, after_store, hit_by_loads, hit_by_store, lock_out, is_locked_out}
 use Rattle.rules.specs.Logs.{log_of}
 
@@ -77,3 +77,20 @@ swept_at [] (y ∷ ys) j d p = absurd p
 swept_at (x ∷ xs) [] j d p = absurd p
 swept_at (x ∷ xs) (y ∷ ys) zero d p = p.0
 swept_at (x ∷ xs) (y ∷ ys) (suc j) d p = swept_at xs ys j d p.1
+
+-- an abort leaves the number of the transaction
+pub hit-number : (x y : Head) → Hit x y → y.transaction ≡ x.transaction
+hit-number x y h =
+    ⊎_elim (λ (e : y ≡ x). ap (λ (z : Head). z.transaction) e)
+    (λ (q : (is_hardware x.state ≡ true) × ((cause : Cause) × (y ≡ abort cause x))). ap (λ (z : Head). z.transaction) q.1.1) h
+
+-- and so a sweep after which one head has another record of the same transaction
+pub number-set : (xs ys : List Head) (k j : ℕ) (h : Head) → Swept xs ys → h.transaction ≡ (get_or xs k new_head).transaction
+    → (get_or (set ys k h) j new_head).transaction ≡ (get_or xs j new_head).transaction
+number-set [] [] k j h p e = refl
+number-set [] (y ∷ ys) k j h p e = absurd p
+number-set (x ∷ xs) [] k j h p e = absurd p
+number-set (x ∷ xs) (y ∷ ys) zero zero h p e = e
+number-set (x ∷ xs) (y ∷ ys) zero (suc j) h p e = hit-number _ _ (swept_at xs ys j new_head p.1)
+number-set (x ∷ xs) (y ∷ ys) (suc k) zero h p e = hit-number x y p.0
+number-set (x ∷ xs) (y ∷ ys) (suc k) (suc j) h p e = number-set xs ys k j h p.1 e

@@ -11,7 +11,7 @@ use Rattle.rules.specs.declared.types.Table.{Table}
 use Rattle.rules.specs.Heads.{new_head, is_idle, is_hardware, abort}
 use Rattle.rules.specs.Bounds.{HeadBounds, InBounds, busy_heads}
 use Rattle.rules.proofs.Records.{with_heads}
-use Rattle.rules.proofs.Sweeps.{Hit, Swept, swept_none, swept_at}
+use Rattle.rules.proofs.Sweeps.{Hit, Swept, swept_none, swept_at, hit-number}
 use Rattle.rules.proofs.HeadBounds.{abort-bounds}
 
 hardware-busy : (s : State) → is_hardware s ≡ true → is_idle s ≡ false
@@ -37,6 +37,12 @@ swept-bounds (x ∷ xs) [] p q = absurd p
 swept-bounds (x ∷ xs) (y ∷ ys) p q =
     All-cons HeadBounds y ys (hit-bounds x y p.0 (All-head HeadBounds x xs q)) (swept-bounds xs ys p.1 (All-tail HeadBounds x xs q))
 
+swept-numbers : (xs ys : List Head) (n m : ℕ) → n ≤ m → Swept xs ys → All (λ (h : Head). h.transaction ≤ n) xs → All (λ (h : Head). h.transaction ≤ m) ys
+swept-numbers xs ys n m le p q k d lt =
+    let same = length_all_zip Hit xs ys p in
+    let number = hit-number _ _ (swept_at xs ys k d p) in
+    let old = q k d (omega arith) in omega arith
+
 -- whether a head has a transaction, as a number
 abbrev pub busy : Head → ℕ
 busy h = cond (is_idle h.state) 0 1
@@ -55,10 +61,10 @@ busy-set (x ∷ xs) (suc k) h d lt = let i = busy-set xs k h d (omega arith) in 
 
 -- one head has a new record after a sweep; the numbers of the table may change as far as its transaction allows
 module _ (t : Table) (s : InBounds t) (k : ℕ) (lt : k < 8) where
-  pub bounds-with : (ys : List Head) → Swept t.heads ys → (h : Head) → HeadBounds h → (sequence commits opened : ℕ) → opened ≤ 60_000
+  pub bounds-with : (ys : List Head) → Swept t.heads ys → (h : Head) → HeadBounds h → (sequence commits opened : ℕ) → opened ≤ 60_000 → t.opened ≤ opened → h.transaction ≤ opened
       → t.opened + (busy h + (commits + sequence / 2)) ≤ opened + (busy (get_or t.heads k new_head) + (t.commits + t.sequence / 2))
       → InBounds (record { heads = set ys k h; head_count = t.head_count; cell_count = t.cell_count; sequence = sequence; commits = commits; opened = opened })
-  bounds-with ys p h ph sequence commits opened le used =
+  bounds-with ys p h ph sequence commits opened le more number used =
       let len : length ys ≡ 8 = sym (length_all_zip Hit t.heads ys p) ∙ s.eight in
       let a = busy-set ys k h new_head (omega arith) in
       let b = swept-busy t.heads ys p in
@@ -69,21 +75,27 @@ module _ (t : Table) (s : InBounds t) (k : ℕ) (lt : k < 8) where
         few_heads = s.few_heads;
         few_cells = s.few_cells;
         opened = le;
+        numbered = All-set (λ (x : Head). x.transaction ≤ opened) ys k h number (swept-numbers t.heads ys t.opened opened more p s.numbered);
         used = omega (arith, s.used);
       }
 
+  -- the number of the head's transaction
+  number-stays : (h : Head) → h.transaction ≡ (get_or t.heads k new_head).transaction → h.transaction ≤ t.opened
+  number-stays h same = let le = s.numbered k new_head (omega (arith, s.eight)) in omega arith
+
   -- the head keeps its transaction, or stays without
   pub bounds-stay : (ys : List Head) → Swept t.heads ys → (h : Head) → HeadBounds h → is_idle h.state ≡ is_idle (get_or t.heads k new_head).state
-      → InBounds (with_heads t (set ys k h))
-  bounds-stay ys p h ph same =
+      → h.transaction ≡ (get_or t.heads k new_head).transaction → InBounds (with_heads t (set ys k h))
+  bounds-stay ys p h ph same number =
       let e : busy h ≡ busy (get_or t.heads k new_head) = ap (λ b. cond b 0 1) same in
-      bounds-with ys p h ph t.sequence t.commits t.opened s.opened (omega arith)
+      bounds-with ys p h ph t.sequence t.commits t.opened s.opened (omega arith) (number-stays h number) (omega arith)
 
   -- the head ends its transaction, which may be counted as a commit
-  pub bounds-end : (h : Head) → HeadBounds h → is_idle h.state ≡ true → is_idle (get_or t.heads k new_head).state ≡ false → (sequence commits : ℕ)
+  pub bounds-end : (h : Head) → HeadBounds h → is_idle h.state ≡ true → is_idle (get_or t.heads k new_head).state ≡ false
+      → h.transaction ≡ (get_or t.heads k new_head).transaction → (sequence commits : ℕ)
       → commits + sequence / 2 ≤ t.commits + t.sequence / 2 + 1
       → InBounds (record { heads = set t.heads k h; head_count = t.head_count; cell_count = t.cell_count; sequence = sequence; commits = commits; opened = t.opened })
-  bounds-end h ph idle old sequence commits le =
+  bounds-end h ph idle old number sequence commits le =
       let a : busy h ≡ 0 = ap (λ b. cond b 0 1) idle in
       let c : busy (get_or t.heads k new_head) ≡ 1 = ap (λ b. cond b 0 1) old in
-      bounds-with t.heads (swept_none t.heads) h ph sequence commits t.opened s.opened (omega arith)
+      bounds-with t.heads (swept_none t.heads) h ph sequence commits t.opened s.opened (omega arith) (number-stays h number) (omega arith)

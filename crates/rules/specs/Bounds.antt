@@ -30,6 +30,7 @@ pub record InBounds (t : Table) : Type 0 where
   pub few_heads : t.head_count ≤ 8
   pub few_cells : t.cell_count ≤ 1024
   pub opened : t.opened ≤ 60_000
+  pub numbered : All (λ (h : Head). h.transaction ≤ t.opened) t.heads
   pub used : busy_heads t.heads + (t.commits + t.sequence / 2) ≤ t.opened
 
 -- the lists keep their lengths

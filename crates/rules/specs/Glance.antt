@@ -1,14 +1,18 @@
 -- Laws of single calls that can be told at a glance.
-use Rattle.std.specs.Prelude.{◌≡◌, ℕ, ◌<◌, Bool, true, false, ◌&&◌, ◌⊎◌, Err, ◌≢◌, is_ok}
+use Rattle.std.specs.Prelude.{◌≡◌, ℕ, ◌<◌, Bool, true, false, ◌&&◌, ◌⊎◌, Err, ◌≢◌, is_ok, Ok, length, ◌≤◌, ◌+◌, List, [], ◌∷◌, All}
 use Rattle.parts.specs.declared.types.Cause.{Cause}
 use Rattle.parts.specs.declared.calls.Call.{Call}
-use Rattle.parts.specs.declared.calls.Call.TheVariants.{Close, Push}
+use Rattle.parts.specs.declared.calls.Call.TheVariants.{Open, Close, Push}
 use Rattle.rules.specs.declared.types.Caller.{Caller}
+use Rattle.rules.specs.declared.types.Granted.{Granted}
 use Rattle.rules.specs.declared.types.Refusal.{Refusal}
 use Rattle.rules.specs.declared.types.Refusal.TheVariants as refuse
+use Rattle.rules.specs.declared.types.Slot.{Slot}
 use Rattle.rules.specs.Kit.{Kit}
 use Rattle.rules.specs.Heads.{is_hardware, abort}
-use Rattle.rules.specs.Bench.{Bench, head_at}
+use Rattle.rules.specs.Logs.{put_in}
+use Rattle.rules.specs.Bench.{Bench, head_at, holds, cells_loaded}
+use Rattle.rules.specs.Bounds.{InBounds}
 use Rattle.rules.specs.Refusals.{by_handle, by_number, lists_fit}
 use Rattle.rules.specs.Answers.{call_of}
 
@@ -53,6 +57,25 @@ StaleHandlesRefused W kit =
     (b : Bench W) (k n : ℕ) (call : Call ℕ W) → lists_fit b ≡ true → k < b.table.head_count → (n ≢ (head_at b k).transaction)
     → call_of kit b (by_handle k n) call ≡ (Err refuse.StaleHandle, b)
 
+-- a granted open gives its head a new number, the next after all that were given
+abbrev pub OpenTakesNextNumber : (W : Type 0) → Kit W → Type 0
+OpenTakesNextNumber W kit =
+    (b : Bench W) (who : Caller) (g : Granted W) → InBounds b.table → (call_of kit b who Open).0 ≡ Ok g
+    → ((head_at (call_of kit b who Open).1 who.head).transaction ≡ b.table.opened + 1) × ((call_of kit b who Open).1.table.opened ≡ b.table.opened + 1)
+
+-- no other call changes a head's number, or how many were given
+abbrev pub NumbersStay : (W : Type 0) → Kit W → Type 0
+NumbersStay W kit =
+    (b : Bench W) (who : Caller) (call : Call ℕ W) → call ≢ Open
+    → ((j : ℕ) → (head_at (call_of kit b who call).1 j).transaction ≡ (head_at b j).transaction)
+    × ((call_of kit b who call).1.table.opened ≡ b.table.opened)
+
+-- a slot may name a cell that the rig does not have: no word is the same as that cell's, it is not loaded, and nothing is written for it
+pub record StrayCells (W : Type 0) (kit : Kit W) : Type 0 where
+  pub differs : (b : Bench W) (k : ℕ) (s : Slot W) → length b.cells ≤ s.cell → holds kit b k s ≡ false
+  pub not_loaded : (b : Bench W) (k : ℕ) (log : List (Slot W)) → All (λ c. c < length b.cells) (cells_loaded kit b k log)
+  pub not_written : (s : Slot W) (cells : List W) → length cells ≤ s.cell → put_in (s ∷ []) cells ≡ cells
+
 pub record CallLaws (W : Type 0) (kit : Kit W) : Type 0 where
   pub refusals : RefusalsChangeNothing W kit
   pub lists : WrongListsRefused W kit
@@ -60,3 +83,6 @@ pub record CallLaws (W : Type 0) (kit : Kit W) : Type 0 where
   pub others : OthersOnlyAbort W kit
   pub handles : HandlesCallAsHeads W kit
   pub stale : StaleHandlesRefused W kit
+  pub opens : OpenTakesNextNumber W kit
+  pub numbers : NumbersStay W kit
+  pub stray : StrayCells W kit
