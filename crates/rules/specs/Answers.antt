@@ -27,14 +27,14 @@ with_answer give o = (answer_by give o.answer, o.left)
 
 -- any of the eight calls
 abbrev pub call_of : {W : Type 0} → Kit W → Bench W → Caller → Call ℕ W → Answer W × Bench W
-call_of kit b who Open = with_answer granted.Begun (open_of kit b who)
+call_of kit b who Open = with_answer granted.Begun (open_of b who)
 call_of kit b who (Read c) = with_answer granted.Word (read_of kit b who c)
 call_of kit b who (Write c w) = with_answer (λ _. granted.Done) (write_of kit b who c w)
 call_of kit b who Close = with_answer granted.Closed (close_of kit b who)
-call_of kit b who Push = with_answer granted.Left (push_of kit b who)
-call_of kit b who Jolt = with_answer (λ _. granted.Done) (jolt_of kit b who)
+call_of kit b who Push = with_answer granted.Left (push_of b who)
+call_of kit b who Jolt = with_answer (λ _. granted.Done) (jolt_of b who)
 call_of kit b who Again = with_answer granted.Begun (again_of kit b who)
-call_of kit b who Drop = with_answer (λ _. granted.Done) (drop_of kit b who)
+call_of kit b who Drop = with_answer (λ _. granted.Done) (drop_of b who)
 
 -- the number of each refusal
 abbrev pub refusal_number : Refusal → ℕ

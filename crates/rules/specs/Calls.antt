@@ -202,11 +202,21 @@ module _ {W : Type 0} (kit : Kit W) (b : Bench W) (k : ℕ) where
       then hardware_close
       else (if is_empty (write_log b k) then becomes b k (Ok (closing.Done me.attempts)) goes_idle else software_close)
 
--- the eight calls, of a caller whose head is k
-module _ {W : Type 0} (kit : Kit W) (b : Bench W) (who : Caller) where
+-- the eight calls, each by a caller; these ask neither board nor policy, and test no word
+module _ {W : Type 0} (b : Bench W) (who : Caller) where
   abbrev pub open_of : Outcome Mode W
   open_of = unless (refusal b who Open) b (granted_open b who.head)
 
+  abbrev pub push_of : Outcome ℕ W
+  push_of = unless (refusal b who Push) b (granted_push b who.head)
+
+  abbrev pub jolt_of : Outcome (Unit {0}) W
+  jolt_of = unless (refusal b who Jolt) b (granted_jolt b who.head)
+
+  abbrev pub drop_of : Outcome (Unit {0}) W
+  drop_of = unless (refusal b who Drop) b (granted_drop b who.head)
+
+module _ {W : Type 0} (kit : Kit W) (b : Bench W) (who : Caller) where
   abbrev pub read_of : ℕ → Outcome W W
   read_of c = unless (refusal b who (Read c)) b (granted_read kit b who.head c)
 
@@ -216,14 +226,5 @@ module _ {W : Type 0} (kit : Kit W) (b : Bench W) (who : Caller) where
   abbrev pub close_of : Outcome Closing W
   close_of = unless (refusal b who Close) b (granted_close kit b who.head)
 
-  abbrev pub push_of : Outcome ℕ W
-  push_of = unless (refusal b who Push) b (granted_push b who.head)
-
-  abbrev pub jolt_of : Outcome (Unit {0}) W
-  jolt_of = unless (refusal b who Jolt) b (granted_jolt b who.head)
-
   abbrev pub again_of : Outcome Mode W
   again_of = unless (refusal b who Again) b (granted_again kit b who.head)
-
-  abbrev pub drop_of : Outcome (Unit {0}) W
-  drop_of = unless (refusal b who Drop) b (granted_drop b who.head)
