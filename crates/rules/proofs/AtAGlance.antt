@@ -1,5 +1,5 @@
 -- The laws of single calls that can be told at a glance.
-use Rattle.std.proofs.Common.{◌≡◌, ℕ, Bool, true, false, not, ◌&&◌, eqb, leb, List, [], ◌∷◌, get_or, set, Some, None, Ok, Err, Option, sym, refl, ap, ◌∙◌, inl, is_ok, ◌+◌, ◌<◌, ◌≤◌, length, All, arith, ⊎_elim, nat_lt}
+use Rattle.std.proofs.Common.{◌≡◌, ℕ, Bool, true, false, not, ◌&&◌, eqb, leb, List, [], ◌∷◌, get_or, set, Some, None, Ok, Err, Option, sym, refl, ap, ◌∙◌, inl, is_ok, ◌+◌, ◌<◌, ◌≤◌, length, All, arith, ⊎_elim, nat_lt, subst}
 use Rattle.std.proofs.lemmas.List.{get_or-set_other, get_or-set_same, set_past}
 use Rattle.std.proofs.lemmas.Bool.{both_ways, not_from_false, eq-eqb, ne_eqb, lt-leb, cond_both, cases_lt, ltb-true}
 use Rattle.parts.specs.declared.types.Cause.{Cause}
@@ -14,19 +14,24 @@ use Rattle.rules.specs.declared.types.Head.{Head}
 use Rattle.rules.specs.declared.types.Refusal.{Refusal}
 use Rattle.rules.specs.declared.types.Refusal.TheVariants as refuse
 use Rattle.rules.specs.Kit.{Kit}
-use Rattle.rules.specs.Heads.{new_head, is_hardware}
-use Rattle.rules.specs.Bench.{Bench, is_odd, head_at, after_loads, cells_validated, map_at, lock_out, holds, holds_same, cells_loaded}
-use Rattle.rules.specs.Refusals.{by_handle, by_number, lists_fit, is_beyond, takes, why_not, waits, lacks_slot, lacks_transaction, lacks_attempt, when, first_found, refusal}
+use Rattle.rules.specs.Heads.{new_head, is_hardware, is_aborted, abort}
+use Rattle.rules.specs.Bench.{Bench, is_odd, head_at, after_loads, cells_validated, map_at, lock_out, holds, holds_same, cells_loaded, write_log}
+use Rattle.rules.specs.Refusals.{by_handle, by_number, lists_fit, is_beyond, takes, why_not, waits, lacks_slot, lacks_transaction, lacks_attempt, when, first_found, refusal, refusals}
 use Rattle.rules.specs.Calls.{Outcome}
 use Rattle.rules.specs.Answers.{Answer, with_answer, call_of}
-use Rattle.rules.specs.Glance.{RefusalsChangeNothing, WrongListsRefused, may_write, CellsChangeByCommits, OthersOnlyAbort, HandlesCallAsHeads, StaleHandlesRefused, OpenTakesNextNumber, NumbersStay, StrayCells, CallLaws}
+use Rattle.rules.specs.Glance.{RefusalsChangeNothing, AbortsTellTheirCause, WrongListsRefused, may_write, CellsChangeByCommits, OthersOnlyAbort, HandlesCallAsHeads, StaleHandlesRefused, OpenTakesNextNumber, NumbersStay, StrayCells, CallLaws}
 use Rattle.rules.proofs.Basics.{wrong}
 use Rattle.rules.proofs.Sweeps.{Hit, Swept, swept_none, swept-lock, swept_at, number-set}
 use Rattle.rules.proofs.Cases.{granted_of, by_call, by_read, by-write, by-close}
-use Rattle.std.proofs.lemmas.List.Elements.{All-nil, All-cons}
+use Rattle.std.proofs.lemmas.List.Elements.{All-nil, All-cons, length_all_zip}
 use Rattle.rules.proofs.Admitted.{admitted}
 use Rattle.rules.specs.declared.types.Slot.{Slot}
 use Rattle.std.proofs.lemmas.Option.{slice_get_past}
+use Rattle.rules.specs.declared.types.State.{State}
+use Rattle.rules.specs.declared.types.State.TheVariants.{Aborted}
+use Rattle.std.specs.List.{AllByRecursion}
+use Rattle.rules.specs.Logs.{put}
+use Rattle.rules.proofs.Records.{wrote_more}
 
 -- nothing is changed if the answer is a refusal and no abort
 abbrev Stays : {W : Type 0} → Bench W → Answer W × Bench W → Type 0
@@ -54,16 +59,118 @@ module _ {W : Type 0} (kit : Kit W) (b : Bench W) where
   stays k Again = stays-granted _ _
   stays k Drop = stays-granted _ _
 
-pub refusals-change-nothing : {W : Type 0} (kit : Kit W) → RefusalsChangeNothing W kit
-refusals-change-nothing kit b who call =
-    by_call kit b who call (Stays b) (λ e _ x q not-abort. refl) (λ _. stays kit b who.head call)
+-- the calls that an aborted head takes
+abbrev goes_on : {W : Type 0} → Call ℕ W → Bool
+goes_on Again = true
+goes_on Drop = true
+goes_on call = false
+
+taken_aborted : {W : Type 0} (call : Call ℕ W) (cause : Cause) → takes call (Aborted cause) ≡ true → goes_on call ≡ true
+taken_aborted Again cause e = refl
+taken_aborted Drop cause e = refl
+taken_aborted call cause e = wrong e
+
+aborted-goes-on : {W : Type 0} (call : Call ℕ W) (s : State) → is_aborted s ≡ true → takes call s ≡ true → goes_on call ≡ true
+aborted-goes-on call (Aborted cause) a e = taken_aborted call cause e
+aborted-goes-on call s a e = wrong a
+
+-- are granted
+goes-on-granted : {W X : Type 0} (kit : Kit W) (b : Bench W) (k : ℕ) (call : Call ℕ W) (e : Refusal) → goes_on call ≡ true → (granted_of kit b k call).0 ≡ Err e → X
+goes-on-granted kit b k Again e g q = cc
+goes-on-granted kit b k Drop e g q = cc
+goes-on-granted kit b k call e g q = wrong g
+
+pub refusals-change-nothing : {W : Type 0} (kit : Kit W) → RefusalsChangeNothing kit
+refusals-change-nothing {W} kit b who call e is why =
+    by_call kit b who call (λ (r : Answer W × Bench W). r.0 ≡ Err e → r.1 ≡ b) (λ _ _ _. refl)
+    (λ none q. ⊎_elim (λ (other : (cause : Cause) → e ≡ refuse.Aborted cause → ⊥). stays kit b who.head call e q other)
+    (λ (was : is_aborted (head_at b who.head).state ≡ true).
+    goes-on-granted kit b who.head call e (aborted-goes-on call (head_at b who.head).state was (admitted b who call none).taken) q) why) is
+
+told_by : {W : Type 0} (call : Call ℕ W) (s : State) (cause : Cause) → why_not call s ≡ refuse.Aborted cause → s ≡ Aborted cause
+told_by (Read c) (Aborted x) cause e = cc
+told_by (Write c w) (Aborted x) cause e = cc
+told_by Close (Aborted x) cause e = cc
+told_by call s cause e = cc
+
+-- what holds of the refusal of each row holds of the one that is found
+abbrev OfRow : (Refusal → Type 0) → Option Refusal → Type 0
+OfRow P None = Unit {0}
+OfRow P (Some e) = P e
+
+of-when : (P : Refusal → Type 0) (t : Bool) (e : Refusal) → P e → OfRow P (when t e)
+of-when P true e p = p
+of-when P false e p = tt
+
+of-found : (P : Refusal → Type 0) (rows : List (Option Refusal)) → AllByRecursion (OfRow P) rows → (x : Refusal) → first_found rows ≡ Some x → P x
+of-found P [] a x q = cc
+of-found P (None ∷ rows) a x q = of-found P rows a.1 x q
+of-found P (Some e ∷ rows) a x q = let is : e ≡ x = cc in subst P is a.0
+
+-- only a head that has aborted tells a cause when it is refused
+refusal-told : {W : Type 0} (b : Bench W) (who : Caller) (call : Call ℕ W) (cause : Cause) → refusal b who call ≡ Some (refuse.Aborted cause)
+    → (head_at b who.head).state ≡ Aborted cause
+refusal-told b who call cause q =
+    of-found P (refusals b who call) (
+      of-when P _ _ (λ e. cc),
+      (
+        of-when P _ _ (λ e. cc),
+        (
+          of-when P _ _ (λ e. cc),
+          (
+            of-when P _ _ (λ e. cc),
+            (
+              of-when P _ _ (told_by call s cause),
+              (of-when P _ _ (λ e. cc), (of-when P _ _ (λ e. cc), (of-when P _ _ (λ e. cc), (of-when P _ _ (λ e. cc), tt)))),
+            ),
+          ),
+        ),
+      ),
+    )
+    (refuse.Aborted cause) q refl
+  where
+    s : State
+    s = (head_at b who.head).state
+
+    P : Refusal → Type 0
+    P e = e ≡ refuse.Aborted cause → s ≡ Aborted cause
+
+-- a call that answers with a cause leaves its head aborted by it
+abbrev Told : {W : Type 0} → ℕ → Cause → Answer W × Bench W → Type 0
+Told k cause r = r.0 ≡ Err (refuse.Aborted cause) → (head_at r.1 k).state ≡ Aborted cause
+
+module _ {W : Type 0} (kit : Kit W) (b : Bench W) (k : ℕ) (cause : Cause) (lt : k < length b.table.heads) where
+  told_in : (ys : List Head) → Swept b.table.heads ys → (x : Cause) (h : Head) → refuse.Aborted x ≡ refuse.Aborted cause
+      → (get_or (set ys k (abort x h)) k new_head).state ≡ Aborted cause
+  told_in ys p x h q =
+      let same = length_all_zip Hit b.table.heads ys p in
+      ap (λ (h : Head). h.state) (get_or-set_same ys k (abort x h) new_head (omega arith)) ∙ cc
+
+  granted-told : (call : Call ℕ W) → Told k cause (granted_of kit b k call)
+  granted-told (Read c) =
+      by_read kit b k c (λ (o : Outcome W W). Told k cause (with_answer granted.Word o)) (λ w q. cc) (λ q. cc) (λ _ ys p s w q. cc)
+      (λ ys p x q. told_in ys p x (head_at b k) cc)
+  granted-told (Write c w) =
+      by-write kit b k c w (λ (o : Outcome (Unit {0}) W). Told k cause (with_answer (λ _. granted.Done) o)) (λ ys p q. cc)
+      (λ q. told_in b.table.heads (swept_none b.table.heads) Capacity (wrote_more (length (put c w (write_log b k))) (head_at b k)) cc)
+  granted-told Close =
+      by-close kit b k (λ (o : Outcome Closing W). Told k cause (with_answer granted.Closed o)) (λ _ q. cc) (λ q. cc) (λ _ _ q. cc)
+      (λ ys p q. told_in ys p Changed (head_at b k) cc)
+  granted-told Jolt = λ q. told_in b.table.heads (swept_none b.table.heads) Other (head_at b k) cc
+  granted-told call = λ q. cc
+
+pub aborts-tell-their-cause : {W : Type 0} (kit : Kit W) → AbortsTellTheirCause kit
+aborts-tell-their-cause {W} kit b who call cause bounds is =
+    by_call kit b who call (Told who.head cause)
+    (λ e r q. refusal-told b who call cause (r ∙ ap Some cc))
+    (λ none. granted-told kit b who.head cause (let a = admitted b who call none in omega (arith, a.head, bounds.few_heads, bounds.eight)) call) is
 
 -- the first row that refuses is the refusal
 when-first : (t : Bool) (e : Refusal) (rows : List (Option Refusal)) → t ≡ true → first_found (when t e ∷ rows) ≡ Some e
 when-first true e rows q = refl
 when-first false e rows q = wrong q
 
-pub wrong-lists-refused : {W : Type 0} (kit : Kit W) → WrongListsRefused W kit
+pub wrong-lists-refused : {W : Type 0} (kit : Kit W) → WrongListsRefused kit
 wrong-lists-refused {W} kit b who call f =
     let is : refusal b who call ≡ Some refuse.Lists = when-first (not (lists_fit b)) refuse.Lists _ (not_from_false (lists_fit b) f) in
     by_call kit b who call (λ (r : Answer W × Bench W). r ≡ (Err refuse.Lists, b))
@@ -107,12 +214,12 @@ module _ {W : Type 0} (kit : Kit W) (b : Bench W) (k : ℕ) where
   others-hit Again j ne = other-alone _ j ne
   others-hit Drop j ne = other-alone _ j ne
 
-pub cells-change-by-commits : {W : Type 0} (kit : Kit W) → CellsChangeByCommits W kit
+pub cells-change-by-commits : {W : Type 0} (kit : Kit W) → CellsChangeByCommits kit
 cells-change-by-commits {W} kit b who call =
     by_call kit b who call (λ (r : Answer W × Bench W). (is_ok r.0 && may_write b who.head call) ≡ false → r.1.cells ≡ b.cells)
     (λ e _ _. refl) (λ _. cells_stay kit b who.head call)
 
-pub others-only-abort : {W : Type 0} (kit : Kit W) → OthersOnlyAbort W kit
+pub others-only-abort : {W : Type 0} (kit : Kit W) → OthersOnlyAbort kit
 others-only-abort {W} kit b who call j ne =
     by_call kit b who call (λ (r : Answer W × Bench W). Hit (head_at b j) (head_at r.1 j)) (λ e _. inl refl) (λ _. others-hit kit b who.head call j ne)
 
@@ -136,13 +243,13 @@ refusal_by b k call unfit missing stale =
     ∷ when (not (takes call s)) (why_not call s) ∷ when (waits b k call && is_odd b.table.sequence) refuse.Busy ∷ when (lacks_slot b k call) refuse.Full
     ∷ when (lacks_transaction b k call) refuse.OutOfTransactions ∷ when (lacks_attempt b k call) refuse.OutOfAttempts ∷ [])
 
-pub handles-call-as-heads : {W : Type 0} (kit : Kit W) → HandlesCallAsHeads W kit
+pub handles-call-as-heads : {W : Type 0} (kit : Kit W) → HandlesCallAsHeads kit
 handles-call-as-heads kit b k n call e =
     let same : refusal b (by_handle k n) call ≡ refusal b (by_number k) call =
     ap (λ t. refusal_by b k call (not (lists_fit b)) (leb b.table.head_count k) (not t)) (eq-eqb n (head_at b k).transaction e) in
     call-is kit b (by_handle k n) call ∙ ap (λ o. settled_by o b (granted_of kit b k call)) same ∙ sym (call-is kit b (by_number k) call)
 
-pub stale-handles-refused : {W : Type 0} (kit : Kit W) → StaleHandlesRefused W kit
+pub stale-handles-refused : {W : Type 0} (kit : Kit W) → StaleHandlesRefused kit
 stale-handles-refused kit b k n call fit lt ne =
     let stale = not (eqb n (head_at b k).transaction) in
     let is : refusal b (by_handle k n) call ≡ Some refuse.StaleHandle =
@@ -150,7 +257,7 @@ stale-handles-refused kit b k n call fit lt ne =
     ∙ ap (λ t. refusal_by b k call false false (not t)) (ne_eqb n (head_at b k).transaction ne) in
     call-is kit b (by_handle k n) call ∙ ap (λ o. settled_by o b (granted_of kit b k call)) is
 
-pub open-takes-next-number : {W : Type 0} (kit : Kit W) → OpenTakesNextNumber W kit
+pub open-takes-next-number : {W : Type 0} (kit : Kit W) → OpenTakesNextNumber kit
 open-takes-next-number {W} kit b who g bounds e =
     by_call kit b who Open
     (λ (r : Answer W × Bench W). r.0 ≡ Ok g → ((head_at r.1 who.head).transaction ≡ b.table.opened + 1) × (r.1.table.opened ≡ b.table.opened + 1))
@@ -183,11 +290,11 @@ module _ {W : Type 0} (kit : Kit W) (b : Bench W) (k : ℕ) where
       (λ ys p. (number-kept ys p _ refl, refl))
   numbers-kept call ne = (number-kept b.table.heads (swept_none b.table.heads) _ refl, refl)
 
-pub numbers-stay : {W : Type 0} (kit : Kit W) → NumbersStay W kit
+pub numbers-stay : {W : Type 0} (kit : Kit W) → NumbersStay kit
 numbers-stay {W} kit b who call ne =
     by_call kit b who call (λ (r : Answer W × Bench W). SameNumbers b r.1) (λ e _. (λ j. refl, refl)) (λ _. numbers-kept kit b who.head call ne)
 
-pub stray-cells : {W : Type 0} (kit : Kit W) → StrayCells W kit
+pub stray-cells : {W : Type 0} (kit : Kit W) → StrayCells kit
 stray-cells {W} kit = record { differs = differs; not_loaded = inside; not_written = λ s cells far. set_past cells s.cell s.word far }
   where
     differs : (b : Bench W) (k : ℕ) (s : Slot W) → length b.cells ≤ s.cell → holds kit b k s ≡ false
@@ -202,9 +309,10 @@ stray-cells {W} kit = record { differs = differs; not_loaded = inside; not_writt
         cond_both (holds kit b k s) _ _ (All P) (λ e. All-cons P s.cell (cells_loaded kit b k log) (within e) (inside b k log))
         (λ _. cond_both (nat_lt s.cell (length b.cells)) (s.cell ∷ []) [] (All P) (λ e. All-cons P s.cell [] (ltb-true s.cell (length b.cells) e) (All-nil P)) (λ _. All-nil P))
 
-pub call-laws : {W : Type 0} (kit : Kit W) → CallLaws W kit
+pub call-laws : {W : Type 0} (kit : Kit W) → CallLaws kit
 call-laws kit = record {
   refusals = refusals-change-nothing kit;
+  causes = aborts-tell-their-cause kit;
   lists = wrong-lists-refused kit;
   cells = cells-change-by-commits kit;
   others = others-only-abort kit;

@@ -1,5 +1,5 @@
 -- Laws of single calls that can be told at a glance.
-use Rattle.std.specs.Prelude.{◌≡◌, ℕ, ◌<◌, Bool, true, false, ◌&&◌, ◌⊎◌, Err, ◌≢◌, is_ok, Ok, length, ◌≤◌, ◌+◌, List, [], ◌∷◌, All}
+use Rattle.std.specs.Prelude.{◌≡◌, ℕ, ◌+◌, ◌<◌, ◌≤◌, Bool, true, false, ◌&&◌, ◌⊎◌, List, [], ◌∷◌, length, Ok, Err, ◌≢◌, is_ok, All}
 use Rattle.parts.specs.declared.types.Cause.{Cause}
 use Rattle.parts.specs.declared.calls.Call.{Call}
 use Rattle.parts.specs.declared.calls.Call.TheVariants.{Open, Close, Push}
@@ -8,24 +8,14 @@ use Rattle.rules.specs.declared.types.Granted.{Granted}
 use Rattle.rules.specs.declared.types.Refusal.{Refusal}
 use Rattle.rules.specs.declared.types.Refusal.TheVariants as refuse
 use Rattle.rules.specs.declared.types.Slot.{Slot}
+use Rattle.rules.specs.declared.types.State.TheVariants.{Aborted}
 use Rattle.rules.specs.Kit.{Kit}
-use Rattle.rules.specs.Heads.{is_hardware, abort}
+use Rattle.rules.specs.Heads.{is_hardware, is_aborted, abort}
 use Rattle.rules.specs.Logs.{put_in}
 use Rattle.rules.specs.Bench.{Bench, head_at, holds, cells_loaded}
 use Rattle.rules.specs.Bounds.{InBounds}
 use Rattle.rules.specs.Refusals.{by_handle, by_number, lists_fit}
-use Rattle.rules.specs.Answers.{call_of}
-
--- a refusal other than 6 changes nothing
-abbrev pub RefusalsChangeNothing : (W : Type 0) → Kit W → Type 0
-RefusalsChangeNothing W kit =
-    (b : Bench W) (who : Caller) (call : Call ℕ W) (e : Refusal) → (call_of kit b who call).0 ≡ Err e
-    → ((cause : Cause) → e ≢ refuse.Aborted cause) → (call_of kit b who call).1 ≡ b
-
--- a call with a list of wrong length is refused with 2, whatever else is wrong with it
-abbrev pub WrongListsRefused : (W : Type 0) → Kit W → Type 0
-WrongListsRefused W kit =
-    (b : Bench W) (who : Caller) (call : Call ℕ W) → lists_fit b ≡ false → call_of kit b who call ≡ (Err refuse.Lists, b)
+use Rattle.rules.specs.Answers.{Answer, call_of}
 
 -- only a hardware close and a push put words into the cells
 abbrev pub may_write : {W : Type 0} → Bench W → ℕ → Call ℕ W → Bool
@@ -33,56 +23,80 @@ may_write b k Close = is_hardware (head_at b k).state
 may_write b k Push = true
 may_write b k call = false
 
--- the cells change only in such a call, and only where it is granted
-abbrev pub CellsChangeByCommits : (W : Type 0) → Kit W → Type 0
-CellsChangeByCommits W kit =
-    (b : Bench W) (who : Caller) (call : Call ℕ W) → (is_ok (call_of kit b who call).0 && may_write b who.head call) ≡ false
-    → (call_of kit b who call).1.cells ≡ b.cells
+module _ {W : Type 0} (kit : Kit W) where
+  -- what a call answers, and what it leaves
+  abbrev answer : Bench W → Caller → Call ℕ W → Answer W
+  answer b who call = (call_of kit b who call).0
 
--- a call changes another head only by aborting it in hardware
-abbrev pub OthersOnlyAbort : (W : Type 0) → Kit W → Type 0
-OthersOnlyAbort W kit =
-    (b : Bench W) (who : Caller) (call : Call ℕ W) (j : ℕ) → (j ≢ who.head)
-    → (head_at (call_of kit b who call).1 j ≡ head_at b j)
-    ⊎ ((is_hardware (head_at b j).state ≡ true) × ((cause : Cause) × (head_at (call_of kit b who call).1 j ≡ abort cause (head_at b j))))
+  abbrev left : Bench W → Caller → Call ℕ W → Bench W
+  left b who call = (call_of kit b who call).1
 
--- a handle calls as its head does, as long as its transaction is its head's
-abbrev pub HandlesCallAsHeads : (W : Type 0) → Kit W → Type 0
-HandlesCallAsHeads W kit =
-    (b : Bench W) (k n : ℕ) (call : Call ℕ W) → n ≡ (head_at b k).transaction → call_of kit b (by_handle k n) call ≡ call_of kit b (by_number k) call
+  -- a refusal changes nothing, but for an abort that the call itself makes
+  abbrev pub RefusalsChangeNothing : Type 0
+  RefusalsChangeNothing =
+      (b : Bench W) (who : Caller) (call : Call ℕ W) (e : Refusal) → answer b who call ≡ Err e
+      → ((cause : Cause) → e ≢ refuse.Aborted cause) ⊎ (is_aborted (head_at b who.head).state ≡ true) → left b who call ≡ b
 
--- else it is refused with 12, where there is such a head
-abbrev pub StaleHandlesRefused : (W : Type 0) → Kit W → Type 0
-StaleHandlesRefused W kit =
-    (b : Bench W) (k n : ℕ) (call : Call ℕ W) → lists_fit b ≡ true → k < b.table.head_count → (n ≢ (head_at b k).transaction)
-    → call_of kit b (by_handle k n) call ≡ (Err refuse.StaleHandle, b)
+  -- 6 tells the cause of the abort: the head has aborted by it
+  abbrev pub AbortsTellTheirCause : Type 0
+  AbortsTellTheirCause =
+      (b : Bench W) (who : Caller) (call : Call ℕ W) (cause : Cause) → InBounds b.table → answer b who call ≡ Err (refuse.Aborted cause)
+      → (head_at (left b who call) who.head).state ≡ Aborted cause
 
--- a granted open gives its head a new number, the next after all that were given
-abbrev pub OpenTakesNextNumber : (W : Type 0) → Kit W → Type 0
-OpenTakesNextNumber W kit =
-    (b : Bench W) (who : Caller) (g : Granted W) → InBounds b.table → (call_of kit b who Open).0 ≡ Ok g
-    → ((head_at (call_of kit b who Open).1 who.head).transaction ≡ b.table.opened + 1) × ((call_of kit b who Open).1.table.opened ≡ b.table.opened + 1)
+  -- a call with a list of wrong length is refused with 2, whatever else is wrong with it
+  abbrev pub WrongListsRefused : Type 0
+  WrongListsRefused = (b : Bench W) (who : Caller) (call : Call ℕ W) → lists_fit b ≡ false → call_of kit b who call ≡ (Err refuse.Lists, b)
 
--- no other call changes a head's number, or how many were given
-abbrev pub NumbersStay : (W : Type 0) → Kit W → Type 0
-NumbersStay W kit =
-    (b : Bench W) (who : Caller) (call : Call ℕ W) → call ≢ Open
-    → ((j : ℕ) → (head_at (call_of kit b who call).1 j).transaction ≡ (head_at b j).transaction)
-    × ((call_of kit b who call).1.table.opened ≡ b.table.opened)
+  -- the cells change only in a granted hardware close or push
+  abbrev pub CellsChangeByCommits : Type 0
+  CellsChangeByCommits =
+      (b : Bench W) (who : Caller) (call : Call ℕ W) → (is_ok (answer b who call) && may_write b who.head call) ≡ false
+      → (left b who call).cells ≡ b.cells
 
--- a slot may name a cell that the rig does not have: no word is the same as that cell's, it is not loaded, and nothing is written for it
-pub record StrayCells (W : Type 0) (kit : Kit W) : Type 0 where
-  pub differs : (b : Bench W) (k : ℕ) (s : Slot W) → length b.cells ≤ s.cell → holds kit b k s ≡ false
-  pub not_loaded : (b : Bench W) (k : ℕ) (log : List (Slot W)) → All (λ c. c < length b.cells) (cells_loaded kit b k log)
-  pub not_written : (s : Slot W) (cells : List W) → length cells ≤ s.cell → put_in (s ∷ []) cells ≡ cells
+  -- a call changes another head only by aborting it in hardware
+  abbrev pub OthersOnlyAbort : Type 0
+  OthersOnlyAbort =
+      (b : Bench W) (who : Caller) (call : Call ℕ W) (j : ℕ) → j ≢ who.head
+      → (head_at (left b who call) j ≡ head_at b j)
+      ⊎ ((is_hardware (head_at b j).state ≡ true) × ((cause : Cause) × (head_at (left b who call) j ≡ abort cause (head_at b j))))
 
-pub record CallLaws (W : Type 0) (kit : Kit W) : Type 0 where
-  pub refusals : RefusalsChangeNothing W kit
-  pub lists : WrongListsRefused W kit
-  pub cells : CellsChangeByCommits W kit
-  pub others : OthersOnlyAbort W kit
-  pub handles : HandlesCallAsHeads W kit
-  pub stale : StaleHandlesRefused W kit
-  pub opens : OpenTakesNextNumber W kit
-  pub numbers : NumbersStay W kit
-  pub stray : StrayCells W kit
+  -- a handle calls as its head does, as long as its transaction is its head's
+  abbrev pub HandlesCallAsHeads : Type 0
+  HandlesCallAsHeads =
+      (b : Bench W) (k n : ℕ) (call : Call ℕ W) → n ≡ (head_at b k).transaction → call_of kit b (by_handle k n) call ≡ call_of kit b (by_number k) call
+
+  -- else it is refused with 12, where there is such a head
+  abbrev pub StaleHandlesRefused : Type 0
+  StaleHandlesRefused =
+      (b : Bench W) (k n : ℕ) (call : Call ℕ W) → lists_fit b ≡ true → k < b.table.head_count → n ≢ (head_at b k).transaction
+      → call_of kit b (by_handle k n) call ≡ (Err refuse.StaleHandle, b)
+
+  -- a granted open gives its head a new number, the next after all that were given
+  abbrev pub OpenTakesNextNumber : Type 0
+  OpenTakesNextNumber =
+      (b : Bench W) (who : Caller) (g : Granted W) → InBounds b.table → answer b who Open ≡ Ok g
+      → ((head_at (left b who Open) who.head).transaction ≡ b.table.opened + 1) × ((left b who Open).table.opened ≡ b.table.opened + 1)
+
+  -- no other call changes a head's number, or how many were given
+  abbrev pub NumbersStay : Type 0
+  NumbersStay =
+      (b : Bench W) (who : Caller) (call : Call ℕ W) → call ≢ Open
+      → ((j : ℕ) → (head_at (left b who call) j).transaction ≡ (head_at b j).transaction) × ((left b who call).table.opened ≡ b.table.opened)
+
+  -- a slot may name a cell that the rig does not have: no word is the same as that cell's, it is not loaded, and nothing is written for it
+  pub record StrayCells : Type 0 where
+    pub differs : (b : Bench W) (k : ℕ) (s : Slot W) → length b.cells ≤ s.cell → holds kit b k s ≡ false
+    pub not_loaded : (b : Bench W) (k : ℕ) (log : List (Slot W)) → All (λ c. c < length b.cells) (cells_loaded kit b k log)
+    pub not_written : (s : Slot W) (cells : List W) → length cells ≤ s.cell → put_in (s ∷ []) cells ≡ cells
+
+  pub record CallLaws : Type 0 where
+    pub refusals : RefusalsChangeNothing
+    pub causes : AbortsTellTheirCause
+    pub lists : WrongListsRefused
+    pub cells : CellsChangeByCommits
+    pub others : OthersOnlyAbort
+    pub handles : HandlesCallAsHeads
+    pub stale : StaleHandlesRefused
+    pub opens : OpenTakesNextNumber
+    pub numbers : NumbersStay
+    pub stray : StrayCells

@@ -27,7 +27,7 @@ pub fn bounds_stand<W: Word, B: Board, P: Policy>(board: &B, policy: &P)
 
 // Laws of single calls: what a refusal leaves, a list of wrong length, which calls change the cells, and what becomes of the other heads.
 pub fn call_laws_stand<W: Word, B: Board, P: Policy>(board: &B, policy: &P)
-    ensures { CallLaws W (kit_of W.Word B.Board P.Policy board.now policy.now) }
+    ensures { CallLaws (kit_of W.Word B.Board P.Policy board.now policy.now) }
 {}
 
 // The three laws, of every list of calls since set-up.
