@@ -178,9 +178,9 @@ module _ {W : Type 0} (kit : Kit W) (start : List W) (m : Rig W) (l : History W)
       → (is_odd m.sequence ≡ true → is_hardware me'.head.state ≡ false)
       → ((k : ℕ) (it : Seat W) → slice_get m.heads k ≡ Some it → (k ≡ h → ⊥) → is_hardware me'.head.state ≡ true → is_hardware it.head.state ≡ true
       → is_hardware (f it).head.state ≡ true → Clear kit me' it × Clear kit it me')
-      → All (Explained start l) past
-      → Explained start l (pages h).attempt
-      → All (Bounded start l kit.patience) ended
+      → All (Explained l.closes start) past
+      → Explained l.closes start (pages h).attempt
+      → All (Bounded l.closes kit.patience) ended
       → ((pages h).attempts ≤ most_attempts kit.patience (closes_of_others l.closes h (pages h).since (length l.closes)))
       → Inv kit start (record { heads = set (map f m.heads) h me'; sequence = m.sequence; commits = m.commits; cells = m.cells })
       (record { closes = l.closes; pages = pages; past = past; ended = ended })
@@ -215,8 +215,8 @@ module _ {W : Type 0} (kit : Kit W) (start : List W) (m : Rig W) (l : History W)
         j x atj k y atk ne hx hy;
     past = pasts;
     present =
-        λ k. ⊎_elim (λ (e : k ≡ h). subst (λ i. Explained start l (pages i).attempt) (sym e) presents)
-        (λ (ne : k ≡ h → ⊥). subst (λ p. Explained start l p.attempt) (sym (others k ne)) (inv.present k)) (cases_eq k h);
+        λ k. ⊎_elim (λ (e : k ≡ h). subst (λ i. Explained l.closes start (pages i).attempt) (sym e) presents)
+        (λ (ne : k ≡ h → ⊥). subst (λ p. Explained l.closes start p.attempt) (sym (others k ne)) (inv.present k)) (cases_eq k h);
     ended = endeds;
     bound =
         λ k.
@@ -244,9 +244,9 @@ module _ {W : Type 0} (kit : Kit W) (start : List W) (m : Rig W) (l : History W)
       → is_hardware me'.head.state ≡ false
       → (is_odd S ≡ false → Calm (set (map f m.heads) h me') cells (cells_after closes start))
       → (is_odd S ≡ true → Lone (set (map f m.heads) h me') cells (cells_after closes start))
-      → All (Explained start l) past
-      → Explained start (record { closes = closes; pages = pages; past = past; ended = ended }) page.attempt
-      → All (Bounded start (record { closes = closes; pages = pages; past = past; ended = ended }) kit.patience) ended
+      → All (Explained l.closes start) past
+      → Explained closes start page.attempt
+      → All (Bounded closes kit.patience) ended
       → (page.attempts ≤ most_attempts kit.patience (closes_of_others closes h page.since (length closes)))
       → Inv kit start (record { heads = set (map f m.heads) h me'; sequence = S; commits = C; cells = cells })
       (record { closes = closes; pages = pages; past = past; ended = ended })
@@ -283,12 +283,12 @@ module _ {W : Type 0} (kit : Kit W) (start : List W) (m : Rig W) (l : History W)
             let was' : is_hardware o'.head.state ≡ true = subst (λ z. is_hardware z.head.state ≡ true) same' ho' in
             subst (λ z. Clear kit z (f o')) (sym same) (subst (Clear kit o) (sym same') (inv.clear j k o o' there there' ne' was was'))))
             j x atj k y atk ne hx hy;
-        past = All-weaker (Explained start l) (Explained start l') (λ a x. explained-grown start l l' new a grown x) past pasts;
+        past = All-weaker (Explained l.closes start) (Explained l'.closes start) (λ a x. explained-grown start l.closes closes new a grown x) past pasts;
         present =
             λ k.
             ⊎_elim
-            (λ (e : k ≡ h). subst (λ i. Explained start l' (pages i).attempt) (sym e) (subst (λ p. Explained start l' p.attempt) (sym here) presents))
-            (λ (ne : k ≡ h → ⊥). subst (λ p. Explained start l' p.attempt) (sym (others k ne)) (explained-grown start l l' new (l.pages k).attempt grown (inv.present k)))
+            (λ (e : k ≡ h). subst (λ i. Explained l'.closes start (pages i).attempt) (sym e) (subst (λ p. Explained l'.closes start p.attempt) (sym here) presents))
+            (λ (ne : k ≡ h → ⊥). subst (λ p. Explained l'.closes start p.attempt) (sym (others k ne)) (explained-grown start l.closes closes new (l.pages k).attempt grown (inv.present k)))
             (cases_eq k h);
         ended = endeds;
         bound =

@@ -4,8 +4,8 @@ use Rattle.std.proofs.lemmas.List.{take_all, take-take, take-append-le, drop-app
 use Rattle.std.proofs.lemmas.List.Elements.{filter-append, All-head, All-tail}
 use Rattle.rules.specs.declared.types.Slot.{Slot}
 use Rattle.rules.specs.Logs.{is_empty, put_in}
-use Rattle.rules.specs.History.{History, Commit, Attempt, Ended, cells_after, is_other, closes_of_others}
-use Rattle.rules.specs.Laws.{Agrees, Explained, Bounded, most_attempts}
+use Rattle.rules.specs.History.{Commit, Attempt, Ended, cells_after, is_other, closes_of_others}
+use Rattle.rules.specs.Laws.{Agrees, Explained, Bounded}
 
 pub kept-drop-append : {X : Type 0} (f : X → Bool) (n : ℕ) (a b : List X) → length (filter f (drop n a)) ≤ length (filter f (drop n (a ++ b)))
 kept-drop-append f zero a b = rw (filter-append f a b, length-append (filter f a) (filter f b)) (omega arith)
@@ -69,15 +69,15 @@ module _ {W : Type 0} where
       quiet go (x ∷ ws) h = absurd (omega arith)
 
   -- a prefix of the closes is one of more closes
-  pub explained-grown : (cells : List W) (l l' : History W) (new : List (Commit W)) (a : Attempt W) → l'.closes ≡ l.closes ++ new → Explained cells l a → Explained cells l' a
-  explained-grown cells l l' new a e x = (
-    x.0,
-    x.1,
-    subst (λ cs. x.0 ≤ length cs) (sym e) (rw (length-append l.closes new) (omega (arith, x.2))),
-    subst (λ cs. Agrees (cells_after cs cells) a.reads) (sym (ap (take x.0) e ∙ take-append-le x.0 l.closes new x.2)) x.3,
-    x.4,
-  )
+  pub explained-grown : (cells : List W) (closes more new : List (Commit W)) (a : Attempt W) → more ≡ closes ++ new → Explained closes cells a → Explained more cells a
+  explained-grown cells closes more new a e x = record {
+    prefix = x.prefix;
+    began = x.began;
+    granted = subst (λ cs. x.prefix ≤ length cs) (sym e) (rw (length-append closes new) (omega (arith, x.granted)));
+    reads = subst (λ cs. Agrees (cells_after cs cells) a.reads) (sym (ap (take x.prefix) e ∙ take-append-le x.prefix closes new x.granted)) x.reads;
+    own_place = x.own_place;
+    own_reads = x.own_reads;
+  }
 
-  pub bounded-grown : (cells : List W) (l l' : History W) (new : List (Commit W)) (patience : ℕ) (x : Ended) → l'.closes ≡ l.closes ++ new → Bounded cells l patience x → Bounded cells l' patience x
-  bounded-grown cells l l' new patience x e b =
-      (subst (λ cs. x.attempts ≤ most_attempts patience (closes_of_others cs x.head x.since x.until)) (sym e) (let more = count-more l.closes new x.head x.since x.until in omega (arith, b.0)), b.1)
+  pub bounded-grown : (closes new : List (Commit W)) (patience : ℕ) (x : Ended) → Bounded closes patience x → Bounded (closes ++ new) patience x
+  bounded-grown closes new patience x b = (let more = count-more closes new x.head x.since x.until in omega (arith, b.0), b.1)

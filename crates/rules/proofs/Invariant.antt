@@ -1,12 +1,12 @@
 -- What ties the rig to the history, and holds after every call.
 use Rattle.std.proofs.Common.{◌≡◌, ℕ, ◌+◌, ◌<◌, ◌≤◌, true, false, ◌||◌, eqb, List, length, take, drop, Some, None, All}
 use Rattle.std.specs.List.{slice_get}
-use Rattle.rules.specs.Logs.{is_empty, names, put_in}
+use Rattle.rules.specs.Logs.{is_empty, names, put_in, word_for}
 use Rattle.rules.specs.Kit.{Kit}
 use Rattle.rules.specs.Heads.{is_hardware, is_software, is_aborted, is_writing_back}
 use Rattle.rules.specs.Bench.{is_odd}
 use Rattle.rules.proofs.Seats.{Seat, Rig, meets}
-use Rattle.rules.specs.History.{History, Commit, Attempt, Page, cells_after, closes_of_others}
+use Rattle.rules.specs.History.{History, Commit, Attempt, Page, cells_after, closes_of_others, last_written}
 use Rattle.rules.specs.Laws.{Agrees, Explained, Bounded, most_attempts}
 use Rattle.rules.proofs.LogLaws.{Distinct}
 
@@ -17,6 +17,7 @@ pub record Linked {W : Type 0} (me : Seat W) (a : Attempt W) : Type 0 where
   pub some : is_empty me.writes ≡ is_empty a.writes
   pub apart : Distinct me.writes
   pub reads : (xs : List W) → Agrees xs me.reads → Agrees xs a.reads
+  pub latest : (c : ℕ) → word_for c me.writes ≡ last_written c a.writes
   pub unclosed : a.closed ≡ None
 
 -- by what is common to the heads: the sequence number S, the commit counter C, the cells and the closes
@@ -81,7 +82,7 @@ pub record Inv {W : Type 0} (kit : Kit W) (start : List W) (m : Rig W) (l : Hist
   pub heads : (k : ℕ) (me : Seat W) → slice_get m.heads k ≡ Some me → HeadOk kit.patience start m.sequence m.commits m.cells l.closes k me (l.pages k)
   pub clear : (j k : ℕ) (me it : Seat W) → slice_get m.heads j ≡ Some me → slice_get m.heads k ≡ Some it → (j ≡ k → ⊥)
       → is_hardware me.head.state ≡ true → is_hardware it.head.state ≡ true → Clear kit me it
-  pub past : All (Explained start l) l.past
-  pub present : (k : ℕ) → Explained start l (l.pages k).attempt
-  pub ended : All (Bounded start l kit.patience) l.ended
+  pub past : All (Explained l.closes start) l.past
+  pub present : (k : ℕ) → Explained l.closes start (l.pages k).attempt
+  pub ended : All (Bounded l.closes kit.patience) l.ended
   pub bound : (k : ℕ) → (l.pages k).attempts ≤ most_attempts kit.patience (closes_of_others l.closes k (l.pages k).since (length l.closes))

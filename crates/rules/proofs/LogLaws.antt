@@ -2,8 +2,8 @@
 use Rattle.std.proofs.lemmas.List.Folds.{list_any-append}
 use Rattle.std.proofs.Common.{◌≡◌, ℕ, suc, ◌+◌, ◌≤◌, true, false, cond, not, ◌&&◌, ◌||◌, eqb, leb, List, [], ◌∷◌, ◌++◌, length, set, Some, None, Option, sym, refl, ap, ◌∙◌, subst, ⊎_elim, arith, All}
 use Rattle.std.specs.List.{slice_get, list_all}
-use Rattle.std.proofs.lemmas.Bool.{eqb-true, eqb-false, or_parts, or_cases, and_parts, and_from, leb-false}
-use Rattle.std.proofs.lemmas.List.{set-set, set_comm, length-append}
+use Rattle.std.proofs.lemmas.Bool.{eqb-true, eqb-false, or_parts, or_cases, and_parts, and_from, leb-false, ne_eqb}
+use Rattle.std.proofs.lemmas.List.{set-set, set_comm, length-append, reverse-append}
 use Rattle.std.proofs.lemmas.List.Elements.{All-append, All-nil, All-cons, All-head, All-tail}
 use Rattle.rules.specs.declared.types.Slot.{Slot}
 use Rattle.rules.specs.Logs.{slot, is_empty, names, word_for, put, note, is_full, put_in}
@@ -12,6 +12,7 @@ use Rattle.rules.specs.Bench.{Bench, holds, holds_same}
 use Rattle.rules.specs.Laws.{Agrees}
 use Rattle.rules.proofs.Seats.{meets}
 use Rattle.rules.proofs.Basics.{eqb-flip, by-test, by-option, wrong, nth-set-other, any_none, all-append-left, all-append-right, all_both}
+use Rattle.rules.specs.History.{last_written}
 
 -- no two slots name one cell
 abbrev pub Distinct : {W : Type 0} → List (Slot W) → Type 0
@@ -88,6 +89,21 @@ module _ {W : Type 0} where
   word_some c w (s ∷ log) q =
       by-test (eqb c s.cell) (λ b. cond b (Some s.word) (word_for c log) ≡ Some w → (b || names c log) ≡ true)
       (λ _ e. refl) (λ _ e. word_some c w log e) q
+
+  -- the word of a cell after a write
+  pub word_for-put : (d c : ℕ) (w : W) (log : List (Slot W)) → word_for d (put c w log) ≡ cond (eqb d c) (Some w) (word_for d log)
+  word_for-put d c w [] = refl
+  word_for-put d c w (s ∷ log) =
+      by-test (eqb c s.cell) (λ b. word_for d (cond b (slot c w ∷ log) (s ∷ put c w log)) ≡ cond (eqb d c) (Some w) (cond (eqb d s.cell) (Some s.word) (word_for d log)))
+      (λ e. subst (λ i. cond (eqb d c) (Some w) (word_for d log) ≡ cond (eqb d c) (Some w) (cond (eqb d i) (Some s.word) (word_for d log))) (eqb-true c s.cell e)
+      (by-test (eqb d c) (λ t. cond t (Some w) (word_for d log) ≡ cond t (Some w) (cond t (Some s.word) (word_for d log))) (λ _. refl) (λ _. refl)))
+      (λ e. by-test (eqb d s.cell)
+      (λ t. eqb d s.cell ≡ t → cond t (Some s.word) (word_for d (put c w log)) ≡ cond (eqb d c) (Some w) (cond t (Some s.word) (word_for d log)))
+      (λ _ f. ap (λ t. cond t (Some w) (Some s.word)) (sym (ne_eqb d c (λ q. eqb-false c s.cell e (sym q ∙ eqb-true d s.cell f)))))
+      (λ _ _. word_for-put d c w log) refl)
+
+  pub last_written-push : (d c : ℕ) (w : W) (ws : List (Slot W)) → last_written d (ws ++ (slot c w ∷ [])) ≡ cond (eqb d c) (Some w) (last_written d ws)
+  last_written-push d c w ws = ap (word_for d) (reverse-append ws (slot c w ∷ []))
 
   -- the slot's cell has the slot's word
   abbrev pub AgreesAt : List W → Slot W → Type 0

@@ -58,7 +58,7 @@ module _ {W : Type 0} (kit : Kit W) (law : Lawful kit) (start : List W) (b : Ben
         aborted = λ e. wrong e;
       })
       plain refl (λ _. refl) (λ k it there ne hm. wrong hm) inv.past (inv.present h)
-      (All-cons (Bounded start l kit.patience) _ l.ended (inv.bound h, λ n e. cc) inv.ended) (inv.bound h))
+      (All-cons (Bounded l.closes kit.patience) _ l.ended (inv.bound h, λ n e. cc) inv.ended) (inv.bound h))
 
   pub keep-jolt : is_hardware me.head.state ≡ true → Keeps kit start l h Jolt (with_answer (λ _. granted.Done) (granted_jolt b h))
   keep-jolt hardware =
@@ -79,14 +79,14 @@ module _ {W : Type 0} (kit : Kit W) (law : Lawful kit) (start : List W) (b : Ben
         since = omega arith;
         mark = refl;
         going = λ _. subst (All (λ s. eqb h s.head ≡ false)) (sym (drop_all n l.closes (omega arith))) (All-nil (λ s. eqb h s.head ≡ false));
-        live = λ _. record { words = λ c. refl; puts = λ xs. refl; some = refl; apart = tt; reads = λ xs a. All-nil (AgreesAt xs); unclosed = refl };
+        live = λ _. record { words = λ c. refl; puts = λ xs. refl; some = refl; apart = tt; reads = λ xs a. All-nil (AgreesAt xs); latest = λ c. refl; unclosed = refl };
         hardware = λ _. record { valid = All-nil (AgreesAt m.cells); under = omega (arith, law.some); budget = omega arith };
         software = λ e. wrong e;
         aborted = λ e. wrong e;
       })
       (idle-plain me.head.state idle) refl (λ o. wrong (sym even ∙ o))
       (λ k it there ne hm hi hf. (All-nil (λ s. meets kit s.cell it.reads ≡ false), all_true (λ s. meets kit s.cell [] ≡ false) (λ s. refl) it.writes))
-      (All-cons (Explained start l) (l.pages h).attempt l.past (inv.present h) inv.past) (n, omega arith, omega arith, All-nil _, λ q e. cc) inv.ended (omega arith))
+      (All-cons (Explained l.closes start) (l.pages h).attempt l.past (inv.present h) inv.past) (record { prefix = n; began = omega arith; granted = omega arith; reads = All-nil _; own_place = λ q e. cc; own_reads = All-nil _ }) inv.ended (omega arith))
 
   -- a policy that says hardware has patience left
   patient : (c : Cause) → kit.next c me.head.aborts ≡ mode.Hardware → me.head.aborts < kit.patience
@@ -121,14 +121,14 @@ module _ {W : Type 0} (kit : Kit W) (law : Lawful kit) (start : List W) (b : Ben
         since = o.since;
         mark = refl;
         going = λ _. going;
-        live = λ _. record { words = λ c. refl; puts = λ xs. refl; some = refl; apart = tt; reads = λ xs a. All-nil (AgreesAt xs); unclosed = refl };
+        live = λ _. record { words = λ c. refl; puts = λ xs. refl; some = refl; apart = tt; reads = λ xs a. All-nil (AgreesAt xs); latest = λ c. refl; unclosed = refl };
         hardware = λ _. record { valid = All-nil (AgreesAt m.cells); under = stays-hardware me.head.state e; budget = omega (arith, down.budget) };
         software = λ e. wrong e;
         aborted = λ e. wrong e;
       })
       plain refl (λ o. wrong (sym even ∙ o))
       (λ k it there ne hm hi hf. (All-nil (λ s. meets kit s.cell it.reads ≡ false), all_true (λ s. meets kit s.cell [] ≡ false) (λ s. refl) it.writes))
-      (All-cons (Explained start l) (l.pages h).attempt l.past (inv.present h) inv.past) (n, omega arith, omega arith, All-nil _, λ q e. cc) inv.ended bound))
+      (All-cons (Explained l.closes start) (l.pages h).attempt l.past (inv.present h) inv.past) (record { prefix = n; began = omega arith; granted = omega arith; reads = All-nil _; own_place = λ q e. cc; own_reads = All-nil _ }) inv.ended bound))
       (λ _. keep-alone kit start _ b bounds lists h lt b.table.sequence b.table.commits b.table.opened (begin mode.Software (present_snapshot b.table) (head_at b h)) b.cells b.reads b.writes (untouched b bounds lists h lt)
       (quiet_at kit start m l inv h me at _ (λ o. o) _ _ _ l.ended struck-same
       (λ k ne. turned-other l.pages h _ k ne) (turned-here l.pages h _)
@@ -137,7 +137,7 @@ module _ {W : Type 0} (kit : Kit W) (law : Lawful kit) (start : List W) (b : Ben
         since = o.since;
         mark = refl;
         going = λ _. going;
-        live = λ _. record { words = λ c. refl; puts = λ xs. refl; some = refl; apart = tt; reads = λ xs a. All-nil (AgreesAt xs); unclosed = refl };
+        live = λ _. record { words = λ c. refl; puts = λ xs. refl; some = refl; apart = tt; reads = λ xs a. All-nil (AgreesAt xs); latest = λ c. refl; unclosed = refl };
         hardware = λ e. wrong e;
         software =
             λ _. record {
@@ -156,4 +156,4 @@ module _ {W : Type 0} (kit : Kit W) (law : Lawful kit) (start : List W) (b : Ben
         aborted = λ e. wrong e;
       })
       plain refl (λ _. refl) (λ k it there ne hm. wrong hm)
-      (All-cons (Explained start l) (l.pages h).attempt l.past (inv.present h) inv.past) (n, omega arith, omega arith, All-nil _, λ q e. cc) inv.ended bound))
+      (All-cons (Explained l.closes start) (l.pages h).attempt l.past (inv.present h) inv.past) (record { prefix = n; began = omega arith; granted = omega arith; reads = All-nil _; own_place = λ q e. cc; own_reads = All-nil _ }) inv.ended bound))

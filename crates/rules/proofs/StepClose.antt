@@ -73,7 +73,7 @@ module _ {W : Type 0} (kit : Kit W) (law : Lawful kit) (start : List W) (b : Ben
 
   abbrev page' : Bool → Page W
   page' writing = record {
-    attempt = record { began = (l.pages h).attempt.began; reads = (l.pages h).attempt.reads; writes = (l.pages h).attempt.writes; closed = Some n };
+    attempt = record (l.pages h).attempt { closed = Some n };
     since = (l.pages h).since;
     attempts = (l.pages h).attempts;
     writing_back = writing;
@@ -108,29 +108,32 @@ module _ {W : Type 0} (kit : Kit W) (law : Lawful kit) (start : List W) (b : Ben
   other-head : (k : ℕ) → (k ≡ h → ⊥) → All (λ s. eqb k s.head ≡ false) (commit ∷ [])
   other-head k ne = All-cons (λ s. eqb k s.head ≡ false) commit [] (ne_eqb k h ne) (All-nil _)
 
-  ended-ok : (writing : Bool) → All (Bounded start (l' writing) kit.patience) (l' writing).ended
+  ended-ok : (writing : Bool) → All (Bounded (l' writing).closes kit.patience) (l' writing).ended
   ended-ok writing =
       let o = inv.heads h me at in
       let stable = count-stable l.closes (commit ∷ []) h (l.pages h).since n (omega arith) in
-      All-cons (Bounded start (l' writing) kit.patience) (end me.head.attempts) l.ended (omega (arith, inv.bound h), λ k e. cc)
-      (All-weaker (Bounded start l kit.patience) (Bounded start (l' writing) kit.patience) (λ x b. bounded-grown start l (l' writing) (commit ∷ []) kit.patience x refl b) l.ended inv.ended)
+      All-cons (Bounded (l' writing).closes kit.patience) (end me.head.attempts) l.ended (omega (arith, inv.bound h), λ k e. cc)
+      (All-weaker (Bounded l.closes kit.patience) (Bounded (l' writing).closes kit.patience) (λ x b. bounded-grown l.closes (commit ∷ []) kit.patience x b) l.ended inv.ended)
 
   bound-ok : (l.pages h).attempts ≤ most_attempts kit.patience (closes_of_others closes' h (l.pages h).since (length closes'))
   bound-ok = let more = count-grown l.closes (commit ∷ []) h (l.pages h).since in omega (arith, inv.bound h)
 
   -- all closes before its own explain an attempt whose reads are valid now
-  explained-all : (writing : Bool) → is_odd m.sequence ≡ false → Agrees m.cells me.reads → Explained start (l' writing) (page' writing).attempt
+  explained-all : (writing : Bool) → is_odd m.sequence ≡ false → Agrees m.cells me.reads → Explained (l' writing).closes start (page' writing).attempt
   explained-all writing even valid =
       let x = inv.present h in
-      let len = length' in (
-        n,
-        omega (arith, x.1, x.2),
-        omega arith,
-        subst (λ xs. Agrees xs (l.pages h).attempt.reads)
+      let len = length' in
+      record {
+        prefix = n;
+        began = omega (arith, x.began, x.granted);
+        granted = omega arith;
+        reads =
+            subst (λ xs. Agrees xs (l.pages h).attempt.reads)
             (settled-all kit law start b l inv h at even ∙ ap (λ cs. cells_after cs start) (sym (take-append-le n l.closes (commit ∷ []) (omega arith))))
-            (((inv.heads h me at).live running).reads m.cells valid),
-        λ q e _. cc,
-      )
+            (((inv.heads h me at).live running).reads m.cells valid);
+        own_place = λ q e _. cc;
+        own_reads = x.own_reads;
+      }
 
   -- the log put into the cells is the commit put in after the closes
   committed-all : is_odd m.sequence ≡ false → put_in me.writes m.cells ≡ cells_after closes' start
@@ -180,8 +183,15 @@ module _ {W : Type 0} (kit : Kit W) (law : Lawful kit) (start : List W) (b : Ben
       })
       (λ e. subst (Lone _ m.cells) (sym same) (lone-kept m.heads m.cells (cells_after l.closes start) h me me' (λ o. o) at struck-same plain refl refl (inv.lone e)))
       inv.past
-      (let g = explained-grown start l (l' false) (commit ∷ []) (l.pages h).attempt refl x in
-      (g.0, g.1, g.2, g.3, λ q e some. wrong (sym some ∙ sym linked.some ∙ none)))
+      (let g = explained-grown start l.closes closes' (commit ∷ []) (l.pages h).attempt refl x in
+      record {
+        prefix = g.prefix;
+        began = g.began;
+        granted = g.granted;
+        reads = g.reads;
+        own_place = λ q e some. wrong (sym some ∙ sym linked.some ∙ none);
+        own_reads = g.own_reads;
+      })
       (ended-ok false) bound-ok)
 
   keep-lock : is_software me.head.state ≡ true → is_empty me.writes ≡ false → is_odd m.sequence ≡ false → Kept (software_close kit b h)

@@ -1,5 +1,5 @@
 -- A granted read.
-use Rattle.std.proofs.Common.{◌≡◌, ℕ, ◌<◌, ◌≤◌, true, false, cond, not, ◌&&◌, ◌||◌, eqb, List, [], ◌∷◌, ◌++◌, map, length, set, Some, Ok, sym, refl, ap, ◌∙◌, subst, arith}
+use Rattle.std.proofs.Common.{◌≡◌, ℕ, ◌<◌, ◌≤◌, true, false, cond, not, ◌&&◌, ◌||◌, eqb, List, [], ◌∷◌, ◌++◌, map, length, set, Some, Ok, sym, refl, ap, ◌∙◌, subst, arith, Bool, zero, suc}
 use Rattle.std.specs.List.{slice_get}
 use Rattle.std.proofs.lemmas.Bool.{cond_both, or_parts}
 use Rattle.parts.specs.declared.types.Cause.TheVariants.{Capacity, Changed}
@@ -14,7 +14,7 @@ use Rattle.rules.specs.Bench.{Bench, head_at, present_snapshot, is_odd, is_valid
 use Rattle.rules.specs.Calls.{Outcome, leaves, logged_or, with_word, notes_word, hardware_read, software_read, fits_read, granted_read}
 use Rattle.rules.specs.Answers.{with_answer}
 use Rattle.rules.specs.Bounds.{InBounds}
-use Rattle.rules.specs.History.{History, Page, pages_with, history_after}
+use Rattle.rules.specs.History.{History, Page, pages_with, history_after, last_written, OwnRead}
 use Rattle.rules.specs.Laws.{Agrees, Explained}
 use Rattle.rules.proofs.Records.{resnap, read_more}
 use Rattle.rules.proofs.Basics.{eqb-flip, by-option, wrong, any_none, all_both}
@@ -24,19 +24,30 @@ use Rattle.rules.proofs.Views.{head-bounds, seat-there, read-room, read_length, 
 use Rattle.rules.proofs.LogLaws.{Distinct, word_none, word_some, agrees-noted, noted-reads, meets-noted, few-noted}
 use Rattle.rules.proofs.HistoryLaws.{count-mono}
 use Rattle.rules.proofs.Invariant.{Linked, Inv}
-use Rattle.rules.proofs.Frames.{struck-hit, hardware-not-software}
+use Rattle.rules.proofs.Frames.{struck-same, struck-hit, hardware-not-software}
 use Rattle.rules.proofs.Turns.{quiet_at, turned-here, turned-other, going-plain, running-going}
 use Rattle.rules.proofs.Common.{gate, software-not-hardware, running-not-aborted, survives, hardware-even, settled-all, sound-valid, changed, struck-self}
 use Rattle.rules.proofs.Keeping.{Keeps, keep-alone, keep-swept}
+use Rattle.std.proofs.lemmas.List.Elements.{All-push}
+use Rattle.std.proofs.lemmas.List.{map-id}
 
--- the attempt with one more word read
+-- the attempt with one more word read from the cells, and of its own writes
 abbrev more-read : {W : Type 0} → ℕ → W → Page W → Page W
-more-read c w p = record {
-  attempt = record { began = p.attempt.began; reads = p.attempt.reads ++ (slot c w ∷ []); writes = p.attempt.writes; closed = p.attempt.closed };
-  since = p.since;
-  attempts = p.attempts;
-  writing_back = p.writing_back;
-}
+more-read c w p = record p { attempt = record p.attempt { reads = p.attempt.reads ++ (slot c w ∷ []) } }
+
+abbrev more-own : {W : Type 0} → ℕ → W → Page W → Page W
+more-own c w p =
+    record p { attempt = record p.attempt { own_reads = p.attempt.own_reads ++ (record { word = w; written = last_written c p.attempt.writes } ∷ []) } }
+
+-- putting what is there already
+set-there : {X : Type 0} (xs : List X) (k : ℕ) (x : X) → slice_get xs k ≡ Some x → set (map (λ (x : X). x) xs) k x ≡ xs
+set-there [] k x e = cc
+set-there (y ∷ xs) zero x e = let is : y ≡ x = cc in rw (map-id xs, is) refl
+set-there {X} (y ∷ xs) (suc k) x e = ap (λ (ys : List X). y ∷ ys) (set-there xs k x e)
+
+-- by whether the attempt had written the cell
+abbrev read-by : {W : Type 0} → Bool → ℕ → W → Page W → Page W
+read-by own c w p = record p { attempt = cond own (more-own c w p).attempt (more-read c w p).attempt }
 
 module _ {W : Type 0} (kit : Kit W) (law : Lawful kit) (start : List W) (b : Bench W) (l : History W) (inv : Inv kit start (view b) l) (bounds : InBounds b.table) (lists : Sized b)
     (h : ℕ) (lt : h < b.table.head_count) (c : ℕ) (running : (is_hardware (head_at b h).state || is_software (head_at b h).state) ≡ true) where
@@ -55,8 +66,7 @@ module _ {W : Type 0} (kit : Kit W) (law : Lawful kit) (start : List W) (b : Ben
       → Inv kit start r (history_after l h (Read c) (Ok (granted.Word w)))
   from-cells w r none new =
       let linked = (inv.heads h me at).live running in
-      subst (λ b. Inv kit start r (cond b l (record { closes = l.closes; pages = pages_with l.pages h (more-read c w (l.pages h)); past = l.past; ended = l.ended })))
-      (sym (sym (linked.words c) ∙ none)) new
+      subst (λ t. Inv kit start r (record l { pages = pages_with l.pages h (read-by t c w (l.pages h)) })) (sym (sym (linked.words c) ∙ none)) new
 
   linked-read : (w : W) (me' : Seat W) → slice_get m.cells c ≡ Some w → Agrees m.cells me.reads → me'.writes ≡ me.writes → me'.reads ≡ note c w me.reads
       → Linked me' (more-read c w (l.pages h)).attempt
@@ -68,22 +78,26 @@ module _ {W : Type 0} (kit : Kit W) (law : Lawful kit) (start : List W) (b : Ben
         some = ap is_empty ws ∙ linked.some;
         apart = subst Distinct (sym ws) linked.apart;
         reads = λ xs a. noted-reads c w me.reads (l.pages h).attempt.reads m.cells here valid linked.reads xs (subst (Agrees xs) rs a);
+        latest = λ d. ap (word_for d) ws ∙ linked.latest d;
         unclosed = linked.unclosed;
       }
 
   -- now explains what was read so far and this word
-  explained-now : (w : W) → slice_get m.cells c ≡ Some w → is_odd m.sequence ≡ false → Agrees m.cells me.reads → Explained start l (more-read c w (l.pages h)).attempt
+  explained-now : (w : W) → slice_get m.cells c ≡ Some w → is_odd m.sequence ≡ false → Agrees m.cells me.reads → Explained l.closes start (more-read c w (l.pages h)).attempt
   explained-now w here even valid =
       let linked = (inv.heads h me at).live running in
       let n = length l.closes in
-      let old = inv.present h in (
-        n,
-        omega (arith, old.1, old.2),
-        omega arith,
-        subst (λ xs. Agrees xs ((l.pages h).attempt.reads ++ (slot c w ∷ []))) (settled-all kit law start b l inv h at even)
-            (noted-reads c w me.reads (l.pages h).attempt.reads m.cells here valid linked.reads m.cells (agrees-noted c w me.reads m.cells here valid)),
-        λ q e. cc,
-      )
+      let old = inv.present h in
+      record {
+        prefix = n;
+        began = omega (arith, old.began, old.granted);
+        granted = omega arith;
+        reads =
+            subst (λ xs. Agrees xs ((l.pages h).attempt.reads ++ (slot c w ∷ []))) (settled-all kit law start b l inv h at even)
+            (noted-reads c w me.reads (l.pages h).attempt.reads m.cells here valid linked.reads m.cells (agrees-noted c w me.reads m.cells here valid));
+        own_place = λ q e. cc;
+        own_reads = old.own_reads;
+      }
 
   abbrev Kept : Outcome W W → Type 0
   Kept o = Keeps kit start l h (Read c) (with_answer granted.Word o)
@@ -200,6 +214,63 @@ module _ {W : Type 0} (kit : Kit W) (law : Lawful kit) (start : List W) (b : Ben
       keep-alone kit start l b bounds lists h lt b.table.sequence b.table.commits b.table.opened (abort Capacity (head_at b h)) b.cells b.reads b.writes (untouched b bounds lists h lt)
       (struck-self kit law start b l inv h at Capacity hardware))
 
+  -- an own write that is read leaves the rig as it is
+  keep-own : (w : W) → word_for c me.writes ≡ Some w → Inv kit start m (record l { pages = pages_with l.pages h (more-own c w (l.pages h)) })
+  keep-own w e =
+      let o = inv.heads h me at in
+      let linked = o.live running in
+      let x = inv.present h in
+      let plain = going-plain me.head.state (running-going me.head.state running) in
+      subst (λ hs. Inv kit start (record m { heads = hs }) (record l { pages = pages_with l.pages h (more-own c w (l.pages h)) }))
+      (set-there m.heads h me at)
+      (quiet_at kit start m l inv h me at me (λ o. o) _ (more-own c w (l.pages h)) l.past l.ended
+      struck-same (λ k ne. turned-other l.pages h _ k ne) (turned-here l.pages h _)
+      (record {
+        attempts = o.attempts;
+        since = o.since;
+        mark = o.mark;
+        going = o.going;
+        live =
+            λ _. record {
+              words = linked.words;
+              puts = linked.puts;
+              some = linked.some;
+              apart = linked.apart;
+              reads = linked.reads;
+              latest = linked.latest;
+              unclosed = linked.unclosed;
+            };
+        hardware = λ q. let k = o.hardware q in record { valid = k.valid; under = k.under; budget = k.budget };
+        software =
+            λ q.
+            let s = o.software q in
+            record {
+              even = s.even;
+              low-S = s.low-S;
+              low-C = s.low-C;
+              valid = s.valid;
+              p = s.p;
+              before = s.before;
+              within = s.within;
+              valid-then = s.valid-then;
+              since = s.since;
+              under = s.under;
+              budget = s.budget;
+            };
+        aborted = λ q. wrong (sym (running-not-aborted me.head.state running) ∙ q);
+      })
+      plain plain (λ odd. (inv.lone odd).no-hardware h me at) (λ k it there ne hm hi hf. (inv.clear h k me it at there (λ q. ne (sym q)) hm hi, inv.clear k h it me there at ne hi hm))
+      inv.past
+      (record {
+        prefix = x.prefix;
+        began = x.began;
+        granted = x.granted;
+        reads = x.reads;
+        own_place = x.own_place;
+        own_reads = All-push (λ (r : OwnRead W). r.written ≡ Some r.word) _ _ x.own_reads (sym (linked.latest c) ∙ e);
+      })
+      inv.ended (inv.bound h))
+
   pub keep-read : ((is_software me.head.state && not (names c me.writes)) && is_odd m.sequence) ≡ false → (not (names c me.writes) && is_full c me.reads) ≡ false
       → Kept (granted_read kit b h c)
   keep-read calm room =
@@ -216,8 +287,8 @@ module _ {W : Type 0} (kit : Kit W) (law : Lawful kit) (start : List W) (b : Ben
       keep-software w few here none software (gate (is_software me.head.state && not (names c me.writes)) (is_odd m.sequence) calm (rw (software, none))))))
       (λ w e.
       let linked = (inv.heads h me at).live running in
-      subst (λ t. Inv kit start (view b) (cond t l (record { closes = l.closes; pages = pages_with l.pages h (more-read c w (l.pages h)); past = l.past; ended = l.ended })))
-      (sym (sym (linked.words c) ∙ word_some c w me.writes e)) inv)
+      subst (λ t. Inv kit start (view b) (record l { pages = pages_with l.pages h (read-by t c w (l.pages h)) }))
+      (sym (sym (linked.words c) ∙ word_some c w me.writes e)) (keep-own w e))
     where
       from_cell : W → Outcome W W
       from_cell w = cond (is_hardware (head_at b h).state) (hardware_read kit b h c w) (software_read kit b h c w)

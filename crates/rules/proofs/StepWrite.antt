@@ -1,5 +1,5 @@
 -- A granted write.
-use Rattle.std.proofs.Common.{◌≡◌, ℕ, ◌+◌, ◌<◌, ◌≤◌, true, false, cond, ◌&&◌, ◌||◌, eqb, List, [], ◌∷◌, ◌++◌, map, length, set, Some, Ok, sym, refl, ap, ◌∙◌, subst, arith}
+use Rattle.std.proofs.Common.{◌≡◌, ℕ, ◌+◌, ◌<◌, ◌≤◌, true, false, cond, ◌&&◌, ◌||◌, eqb, List, [], ◌∷◌, ◌++◌, map, length, set, Some, Ok, sym, refl, ap, ◌∙◌, subst, arith, Option}
 use Rattle.std.specs.List.{slice_get}
 use Rattle.std.proofs.lemmas.Bool.{cond_both, cond-true}
 use Rattle.parts.specs.declared.types.Cause.TheVariants.{Conflict, Capacity}
@@ -21,7 +21,7 @@ use Rattle.rules.proofs.Basics.{by-test, wrong}
 use Rattle.rules.proofs.Admitted.{Sized}
 use Rattle.rules.proofs.Seats.{Seat, Rig, view, seat_of, seat_at, abort_seat, meets, claimed}
 use Rattle.rules.proofs.Views.{head-bounds, seat-there, write-room, write-length, own-log, writes-laid, conflict-seen}
-use Rattle.rules.proofs.LogLaws.{names-put, names-push, put-in-put, put-in-append, some-put, some-push, distinct-put, all-put, few-put}
+use Rattle.rules.proofs.LogLaws.{names-put, names-push, put-in-put, put-in-append, some-put, some-push, distinct-put, all-put, few-put, word_for-put, last_written-push}
 use Rattle.rules.proofs.Invariant.{Linked, Inv}
 use Rattle.rules.proofs.Frames.{struck-same, struck-hit, hardware-not-software}
 use Rattle.rules.proofs.Turns.{quiet_at, turned-here, turned-other, going-plain, running-going}
@@ -31,7 +31,7 @@ use Rattle.rules.proofs.Keeping.{Keeps, keep-alone, keep-swept}
 -- the attempt with one more write
 abbrev more-written : {W : Type 0} → ℕ → W → Page W → Page W
 more-written c w p = record {
-  attempt = record { began = p.attempt.began; reads = p.attempt.reads; writes = p.attempt.writes ++ (slot c w ∷ []); closed = p.attempt.closed };
+  attempt = record p.attempt { writes = p.attempt.writes ++ (slot c w ∷ []) };
   since = p.since;
   attempts = p.attempts;
   writing_back = p.writing_back;
@@ -86,13 +86,21 @@ module _ {W : Type 0} (kit : Kit W) (law : Lawful kit) (start : List W) (b : Ben
         some = some-put c w me.writes ∙ sym (some-push (slot c w) ws);
         apart = distinct-put c w me.writes linked.apart;
         reads = linked.reads;
+        latest = λ d. word_for-put d c w me.writes ∙ ap (λ (o : Option W). cond (eqb d c) (Some w) o) (linked.latest d) ∙ sym (last_written-push d c w ws);
         unclosed = linked.unclosed;
       }
 
-  explained-write : Explained start l (more-written c w (l.pages h)).attempt
+  explained-write : Explained l.closes start (more-written c w (l.pages h)).attempt
   explained-write =
       let x = inv.present h in
-      (x.0, x.1, x.2, x.3, λ q e. cc ((inv.heads h me at).live running).unclosed)
+      record {
+        prefix = x.prefix;
+        began = x.began;
+        granted = x.granted;
+        reads = x.reads;
+        own_place = λ q e. cc ((inv.heads h me at).live running).unclosed;
+        own_reads = x.own_reads;
+      }
 
   keep-software : is_software me.head.state ≡ true → Kept (puts_word kit b h (Ok tt) new b.table.heads x)
   keep-software software =

@@ -107,9 +107,9 @@ module _ {W : Type 0} (kit : Kit W) (start : List W) where
         subst (λ x. HeadOk kit.patience start 0 0 start [] k x blank) (sym (nth-replicate n new_seat me k there))
         (record { attempts = refl; since = omega arith; mark = refl; going = λ e. wrong e; live = λ e. wrong e; hardware = λ e. wrong e; software = λ e. wrong e; aborted = λ e. wrong e });
     clear = λ j k me it there _ _ hardware _. wrong (subst (λ x. is_hardware x.head.state ≡ true) (nth-replicate n new_seat me j there) hardware);
-    past = All-nil (Explained start nothing_yet);
-    present = λ k. (0, omega arith, omega arith, All-nil _, λ q e. cc);
-    ended = All-nil (Bounded start nothing_yet kit.patience);
+    past = All-nil (Explained [] start);
+    present = λ k. record { prefix = 0; began = omega arith; granted = omega arith; reads = All-nil _; own_place = λ q e. cc; own_reads = All-nil _ };
+    ended = All-nil (Bounded [] kit.patience);
     bound = λ k. omega arith;
   }
 

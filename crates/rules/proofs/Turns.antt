@@ -59,9 +59,9 @@ module _ {W : Type 0} (kit : Kit W) (start : List W) (m : Rig W) (l : History W)
       → (is_odd m.sequence ≡ true → is_hardware me'.head.state ≡ false)
       → ((k : ℕ) (it : Seat W) → slice_get m.heads k ≡ Some it → (k ≡ h → ⊥) → is_hardware me'.head.state ≡ true → is_hardware it.head.state ≡ true
       → is_hardware (f it).head.state ≡ true → Clear kit me' it × Clear kit it me')
-      → All (Explained start l) past
-      → Explained start l page.attempt
-      → All (Bounded start l kit.patience) ended
+      → All (Explained l.closes start) past
+      → Explained l.closes start page.attempt
+      → All (Bounded l.closes kit.patience) ended
       → (page.attempts ≤ most_attempts kit.patience (closes_of_others l.closes h page.since (length l.closes)))
       → Inv kit start (record { heads = set (map f m.heads) h me'; sequence = m.sequence; commits = m.commits; cells = m.cells })
       (record { closes = l.closes; pages = pages; past = past; ended = ended })
@@ -69,6 +69,6 @@ module _ {W : Type 0} (kit : Kit W) (start : List W) (m : Rig W) (l : History W)
       quiet kit start m l inv h me me' f pages past ended at struck others
       (subst (HeadOk kit.patience start m.sequence m.commits m.cells l.closes h me') (sym here) ok)
       plain plain' calm clear pasts
-      (subst (λ p. Explained start l p.attempt) (sym here) presents)
+      (subst (λ p. Explained l.closes start p.attempt) (sym here) presents)
       endeds
       (subst (λ p. p.attempts ≤ most_attempts kit.patience (closes_of_others l.closes h p.since (length l.closes))) (sym here) bounds)

@@ -1,5 +1,5 @@
 -- What calls and answers alone tell of a run: the commits in their order, every attempt and every transaction.
-use Rattle.std.specs.Prelude.{ℕ, ◌+◌, Bool, true, false, not, ◌&&◌, List, [], ◌∷◌, ◌++◌, length, take, drop, Some, None, Ok, filter, Option, ◌==◌, if◌then◌else◌}
+use Rattle.std.specs.Prelude.{ℕ, ◌+◌, Bool, true, false, not, ◌&&◌, List, [], ◌∷◌, ◌++◌, length, take, drop, Some, None, Ok, filter, Option, ◌==◌, if◌then◌else◌, reverse}
 use Rattle.parts.specs.declared.calls.Call.{Call}
 use Rattle.parts.specs.declared.calls.Call.TheVariants.{Open, Read, Write, Close, Push, Again, Drop}
 use Rattle.rules.specs.declared.types.Closing.{Closing}
@@ -7,7 +7,7 @@ use Rattle.rules.specs.declared.types.Closing.TheVariants as closing
 use Rattle.rules.specs.declared.types.Granted.TheVariants as granted
 use Rattle.rules.specs.declared.types.Made.{Made}
 use Rattle.rules.specs.declared.types.Slot.{Slot}
-use Rattle.rules.specs.Logs.{is_empty, slot, names, put_in}
+use Rattle.rules.specs.Logs.{is_empty, slot, names, word_for, put_in}
 use Rattle.rules.specs.Answers.{Answer, attempts_told}
 
 -- a granted close: whose it was, and the granted writes of the transaction's last attempt, in their order
@@ -15,11 +15,17 @@ pub record Commit (W : Type 0) : Type 0 where
   pub head : ℕ
   pub writes : List (Slot W)
 
--- an attempt: how many closes were granted before it began, the words that it read from the cells, its granted writes,
--- and, if it closed, how many closes were granted before its own
+-- a word that was read of a cell which the attempt had written, and the word that it had written there last
+pub record OwnRead (W : Type 0) : Type 0 where
+  pub word : W
+  pub written : Option W
+
+-- an attempt: how many closes were granted before it began, the words that it read from the cells, those that it read of
+-- its own writes, its granted writes, and, if it closed, how many closes were granted before its own
 pub record Attempt (W : Type 0) : Type 0 where
   pub began : ℕ
   pub reads : List (Slot W)
+  pub own_reads : List (OwnRead W)
   pub writes : List (Slot W)
   pub closed : Option ℕ
 
@@ -49,10 +55,14 @@ pub record History (W : Type 0) : Type 0 where
 
 -- before any call
 abbrev pub blank : {W : Type 0} → Page W
-blank = record { attempt = record { began = 0; reads = []; writes = []; closed = None }; since = 0; attempts = 0; writing_back = false }
+blank = record { attempt = record { began = 0; reads = []; own_reads = []; writes = []; closed = None }; since = 0; attempts = 0; writing_back = false }
 
 abbrev pub nothing_yet : {W : Type 0} → History W
 nothing_yet = record { closes = []; pages = λ _. blank; past = []; ended = [] }
+
+-- the word that was put last into the cell by these writes
+abbrev pub last_written : {W : Type 0} → ℕ → List (Slot W) → Option W
+last_written c writes = word_for c (reverse writes)
 
 -- the pages with another one for the head k
 abbrev pub pages_with : {X : Type 0} → (ℕ → X) → ℕ → X → ℕ → X
@@ -77,7 +87,7 @@ module _ {W : Type 0} (l : History W) (k : ℕ) where
   -- an attempt of the head k has begun
   abbrev with_attempt : ℕ → ℕ → History W
   with_attempt since attempts =
-      let attempt : Attempt W = record { began = count; reads = []; writes = []; closed = None } in
+      let attempt : Attempt W = record { began = count; reads = []; own_reads = []; writes = []; closed = None } in
       record (with_page (record { attempt = attempt; since = since; attempts = attempts; writing_back = false })) { past = page.attempt ∷ l.past }
 
   -- its transaction has ended
@@ -86,10 +96,15 @@ module _ {W : Type 0} (l : History W) (k : ℕ) where
       record h { ended = record { head = k; since = page.since; until = count; attempts = page.attempts; told = told } ∷ l.ended }
 
   -- a granted read: the word is one from the cells if no earlier granted write of the attempt names the cell
-  abbrev after_read : ℕ → W → History W
-  after_read c w =
+  abbrev attempt_read : ℕ → W → Attempt W
+  attempt_read c w =
       let a = page.attempt in
-      if names c a.writes then l else with_page (record page { attempt = record a { reads = a.reads ++ (slot c w ∷ []) } })
+      if names c a.writes
+      then record a { own_reads = a.own_reads ++ (record { word = w; written = last_written c a.writes } ∷ []) }
+      else record a { reads = a.reads ++ (slot c w ∷ []) }
+
+  abbrev after_read : ℕ → W → History W
+  after_read c w = with_page (record page { attempt = attempt_read c w })
 
   -- a granted write
   abbrev after_write : ℕ → W → History W

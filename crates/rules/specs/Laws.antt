@@ -8,7 +8,7 @@ use Rattle.rules.specs.Logs.{is_empty}
 use Rattle.rules.specs.Bench.{Bench}
 use Rattle.rules.specs.Calls.{set_up}
 use Rattle.rules.specs.Answers.{Answer}
-use Rattle.rules.specs.History.{History, Attempt, Ended, nothing_yet, history_of, cells_after, closes_of_others}
+use Rattle.rules.specs.History.{History, Commit, OwnRead, Attempt, Ended, nothing_yet, history_of, cells_after, closes_of_others}
 use Rattle.rules.specs.Runs.{answers_of, left_by}
 
 -- each word is its cell's word
@@ -19,29 +19,31 @@ Agrees cells log = All (λ s. slice_get cells s.cell ≡ Some s.word) log
 abbrev pub most_attempts : ℕ → ℕ → ℕ
 most_attempts patience closes = patience + 1 + closes
 
-module _ {W : Type 0} (cells : List W) (l : History W) where
+module _ {W : Type 0} (closes : List (Commit W)) where
   -- one prefix of the closes, with every close granted before the attempt began in it, explains the attempt: after it
   -- every word that the attempt read from the cells is its cell's word; and if the attempt closed with writes, the
-  -- prefix is exactly the closes before its own
-  abbrev pub Explained : Attempt W → Type 0
-  Explained a =
-      (p : ℕ) × (a.began ≤ p) × (p ≤ length l.closes) × Agrees (cells_after (take p l.closes) cells) a.reads
-      × ((q : ℕ) → a.closed ≡ Some q → is_empty a.writes ≡ false → p ≡ q)
+  -- prefix is exactly the closes before its own. Every other word that it read is the one that it wrote there last
+  pub record Explained (cells : List W) (a : Attempt W) : Type 0 where
+    pub prefix : ℕ
+    pub began : a.began ≤ prefix
+    pub granted : prefix ≤ length closes
+    pub reads : Agrees (cells_after (take prefix closes) cells) a.reads
+    pub own_place : (q : ℕ) → a.closed ≡ Some q → is_empty a.writes ≡ false → prefix ≡ q
+    pub own_reads : All (λ (r : OwnRead W). r.written ≡ Some r.word) a.own_reads
 
   -- a transaction that has ended made no more, and its granted close told how many
   abbrev pub Bounded : ℕ → Ended → Type 0
   Bounded patience e =
-      (e.attempts ≤ most_attempts patience (closes_of_others l.closes e.head e.since e.until))
-      × ((n : ℕ) → e.told ≡ Some n → n ≡ e.attempts)
+      (e.attempts ≤ most_attempts patience (closes_of_others closes e.head e.since e.until)) × ((n : ℕ) → e.told ≡ Some n → n ≡ e.attempts)
 
 pub record ThreeLaws {W : Type 0} (patience : ℕ) (cells now : List W) (l : History W) : Type 0 where
   -- while no head is writing back, the cells are those at set-up with the writes of all closes put in, in order
   pub settled : ((k : ℕ) → (l.pages k).writing_back ≡ false) → now ≡ cells_after l.closes cells
   -- every attempt is explained: the earlier ones, and each head's present or latest one
-  pub explained : All (Explained cells l) l.past
-  pub explained_now : (k : ℕ) → Explained cells l (l.pages k).attempt
+  pub explained : All (Explained l.closes cells) l.past
+  pub explained_now : (k : ℕ) → Explained l.closes cells (l.pages k).attempt
   -- every transaction is bounded: those that have ended, and each head's present one as far as it has come
-  pub bounded : All (Bounded cells l patience) l.ended
+  pub bounded : All (Bounded l.closes patience) l.ended
   pub bounded_now : (k : ℕ) → (l.pages k).attempts ≤ most_attempts patience (closes_of_others l.closes k (l.pages k).since (length l.closes))
 
 -- the laws hold of these calls and answers, from these cells to those
