@@ -72,9 +72,9 @@ module _ {W : Type 0} where
   pub explained-grown : (cells : List W) (closes more new : List (Commit W)) (a : Attempt W) → more ≡ closes ++ new → Explained closes cells a → Explained more cells a
   explained-grown cells closes more new a e x = record {
     prefix = x.prefix;
-    began = x.began;
-    granted = subst (λ cs. x.prefix ≤ length cs) (sym e) (rw (length-append closes new) (omega (arith, x.granted)));
-    reads = subst (λ cs. Agrees (cells_after cs cells) a.reads) (sym (ap (take x.prefix) e ∙ take-append-le x.prefix closes new x.granted)) x.reads;
+    has_earlier = x.has_earlier;
+    is_prefix = subst (λ cs. x.prefix ≤ length cs) (sym e) (rw (length-append closes new) (omega (arith, x.is_prefix)));
+    explains = subst (λ cs. Agrees (cells_after cs cells) a.reads) (sym (ap (take x.prefix) e ∙ take-append-le x.prefix closes new x.is_prefix)) x.explains;
     own_place = x.own_place;
     own_reads = x.own_reads;
   }

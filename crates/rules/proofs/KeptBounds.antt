@@ -201,7 +201,7 @@ module _ {W : Type 0} (kit : Kit W) (b : Bench W) (s : InBounds b.table) (who : 
   granted-kept Again a lt = again_kept kit b s k lt (taken-busy {W = W} Again state refl a.taken) (leb-false 70_000 (head_at b k).attempts a.attempt)
   granted-kept Drop a lt = drop-kept kit b s k lt (taken-busy {W = W} Drop state refl a.taken)
 
-pub bounds-kept : {W : Type 0} (kit : Kit W) → BoundsKept W kit
+pub bounds-kept : {W : Type 0} (kit : Kit W) → BoundsKept kit
 bounds-kept {W} kit b who call s =
     by_call kit b who call (λ (r : Answer W × Bench W). Kept b r.1) (λ e _. (s, (refl, refl, refl)))
     (λ q. let a = admitted b who call q in granted-kept kit b s who call a (omega (arith, a.head, s.few_heads)))

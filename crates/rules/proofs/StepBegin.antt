@@ -86,7 +86,7 @@ module _ {W : Type 0} (kit : Kit W) (law : Lawful kit) (start : List W) (b : Ben
       })
       (idle-plain me.head.state idle) refl (λ o. wrong (sym even ∙ o))
       (λ k it there ne hm hi hf. (All-nil (λ s. meets kit s.cell it.reads ≡ false), all_true (λ s. meets kit s.cell [] ≡ false) (λ s. refl) it.writes))
-      (All-cons (Explained l.closes start) (l.pages h).attempt l.past (inv.present h) inv.past) (record { prefix = n; began = omega arith; granted = omega arith; reads = All-nil _; own_place = λ q e. cc; own_reads = All-nil _ }) inv.ended (omega arith))
+      (All-cons (Explained l.closes start) (l.pages h).attempt l.past (inv.present h) inv.past) (record { prefix = n; is_prefix = omega arith; has_earlier = omega arith; explains = All-nil _; own_place = λ q e. cc; own_reads = All-nil _ }) inv.ended (omega arith))
 
   -- a policy that says hardware has patience left
   patient : (c : Cause) → kit.next c me.head.aborts ≡ mode.Hardware → me.head.aborts < kit.patience
@@ -128,7 +128,7 @@ module _ {W : Type 0} (kit : Kit W) (law : Lawful kit) (start : List W) (b : Ben
       })
       plain refl (λ o. wrong (sym even ∙ o))
       (λ k it there ne hm hi hf. (All-nil (λ s. meets kit s.cell it.reads ≡ false), all_true (λ s. meets kit s.cell [] ≡ false) (λ s. refl) it.writes))
-      (All-cons (Explained l.closes start) (l.pages h).attempt l.past (inv.present h) inv.past) (record { prefix = n; began = omega arith; granted = omega arith; reads = All-nil _; own_place = λ q e. cc; own_reads = All-nil _ }) inv.ended bound))
+      (All-cons (Explained l.closes start) (l.pages h).attempt l.past (inv.present h) inv.past) (record { prefix = n; is_prefix = omega arith; has_earlier = omega arith; explains = All-nil _; own_place = λ q e. cc; own_reads = All-nil _ }) inv.ended bound))
       (λ _. keep-alone kit start _ b bounds lists h lt b.table.sequence b.table.commits b.table.opened (begin mode.Software (present_snapshot b.table) (head_at b h)) b.cells b.reads b.writes (untouched b bounds lists h lt)
       (quiet_at kit start m l inv h me at _ (λ o. o) _ _ _ l.ended struck-same
       (λ k ne. turned-other l.pages h _ k ne) (turned-here l.pages h _)
@@ -156,4 +156,4 @@ module _ {W : Type 0} (kit : Kit W) (law : Lawful kit) (start : List W) (b : Ben
         aborted = λ e. wrong e;
       })
       plain refl (λ _. refl) (λ k it there ne hm. wrong hm)
-      (All-cons (Explained l.closes start) (l.pages h).attempt l.past (inv.present h) inv.past) (record { prefix = n; began = omega arith; granted = omega arith; reads = All-nil _; own_place = λ q e. cc; own_reads = All-nil _ }) inv.ended bound))
+      (All-cons (Explained l.closes start) (l.pages h).attempt l.past (inv.present h) inv.past) (record { prefix = n; is_prefix = omega arith; has_earlier = omega arith; explains = All-nil _; own_place = λ q e. cc; own_reads = All-nil _ }) inv.ended bound))

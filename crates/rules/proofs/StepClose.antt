@@ -125,9 +125,9 @@ module _ {W : Type 0} (kit : Kit W) (law : Lawful kit) (start : List W) (b : Ben
       let len = length' in
       record {
         prefix = n;
-        began = omega (arith, x.began, x.granted);
-        granted = omega arith;
-        reads =
+        has_earlier = omega (arith, x.has_earlier, x.is_prefix);
+        is_prefix = omega arith;
+        explains =
             subst (λ xs. Agrees xs (l.pages h).attempt.reads)
             (settled-all kit law start b l inv h at even ∙ ap (λ cs. cells_after cs start) (sym (take-append-le n l.closes (commit ∷ []) (omega arith))))
             (((inv.heads h me at).live running).reads m.cells valid);
@@ -186,9 +186,9 @@ module _ {W : Type 0} (kit : Kit W) (law : Lawful kit) (start : List W) (b : Ben
       (let g = explained-grown start l.closes closes' (commit ∷ []) (l.pages h).attempt refl x in
       record {
         prefix = g.prefix;
-        began = g.began;
-        granted = g.granted;
-        reads = g.reads;
+        has_earlier = g.has_earlier;
+        is_prefix = g.is_prefix;
+        explains = g.explains;
         own_place = λ q e some. wrong (sym some ∙ sym linked.some ∙ none);
         own_reads = g.own_reads;
       })

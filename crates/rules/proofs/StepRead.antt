@@ -90,9 +90,9 @@ module _ {W : Type 0} (kit : Kit W) (law : Lawful kit) (start : List W) (b : Ben
       let old = inv.present h in
       record {
         prefix = n;
-        began = omega (arith, old.began, old.granted);
-        granted = omega arith;
-        reads =
+        has_earlier = omega (arith, old.has_earlier, old.is_prefix);
+        is_prefix = omega arith;
+        explains =
             subst (λ xs. Agrees xs ((l.pages h).attempt.reads ++ (slot c w ∷ []))) (settled-all kit law start b l inv h at even)
             (noted-reads c w me.reads (l.pages h).attempt.reads m.cells here valid linked.reads m.cells (agrees-noted c w me.reads m.cells here valid));
         own_place = λ q e. cc;
@@ -263,9 +263,9 @@ module _ {W : Type 0} (kit : Kit W) (law : Lawful kit) (start : List W) (b : Ben
       inv.past
       (record {
         prefix = x.prefix;
-        began = x.began;
-        granted = x.granted;
-        reads = x.reads;
+        has_earlier = x.has_earlier;
+        is_prefix = x.is_prefix;
+        explains = x.explains;
         own_place = x.own_place;
         own_reads = All-push (λ (r : OwnRead W). r.written ≡ Some r.word) _ _ x.own_reads (sym (linked.latest c) ∙ e);
       })

@@ -95,9 +95,9 @@ module _ {W : Type 0} (kit : Kit W) (law : Lawful kit) (start : List W) (b : Ben
       let x = inv.present h in
       record {
         prefix = x.prefix;
-        began = x.began;
-        granted = x.granted;
-        reads = x.reads;
+        has_earlier = x.has_earlier;
+        is_prefix = x.is_prefix;
+        explains = x.explains;
         own_place = λ q e. cc ((inv.heads h me at).live running).unclosed;
         own_reads = x.own_reads;
       }

@@ -108,7 +108,7 @@ module _ {W : Type 0} (kit : Kit W) (start : List W) where
         (record { attempts = refl; since = omega arith; mark = refl; going = λ e. wrong e; live = λ e. wrong e; hardware = λ e. wrong e; software = λ e. wrong e; aborted = λ e. wrong e });
     clear = λ j k me it there _ _ hardware _. wrong (subst (λ x. is_hardware x.head.state ≡ true) (nth-replicate n new_seat me j there) hardware);
     past = All-nil (Explained [] start);
-    present = λ k. record { prefix = 0; began = omega arith; granted = omega arith; reads = All-nil _; own_place = λ q e. cc; own_reads = All-nil _ };
+    present = λ k. record { prefix = 0; is_prefix = omega arith; has_earlier = omega arith; explains = All-nil _; own_place = λ q e. cc; own_reads = All-nil _ };
     ended = All-nil (Bounded [] kit.patience);
     bound = λ k. omega arith;
   }

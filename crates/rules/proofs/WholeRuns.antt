@@ -25,7 +25,7 @@ set-up-new heads count t e =
         let a = and_parts (leb 1 heads && leb heads 8) (leb 1 count && leb count 1024) r in
         leb-true heads 8 (and_parts (leb 1 heads) (leb heads 8) a.0).1
 
-pub laws-of-runs : {W : Type 0} (kit : Kit W) → Lawful kit → LawsOfRuns W kit
+pub laws-of-runs : {W : Type 0} (kit : Kit W) → Lawful kit → LawsOfRuns kit
 laws-of-runs kit law heads count b calls e =
     let s = set-up-new heads count b.table e in
     let inv = subst (λ t. Inv kit b.cells (view (record b { table = t })) nothing_yet) (sym s.0) (new-inv kit b.cells heads count s.1 b.reads b.writes) in

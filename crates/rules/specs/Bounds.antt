@@ -40,7 +40,7 @@ SameLengths a b = (length b.cells ≡ length a.cells) × (length b.reads ≡ len
 abbrev pub BoundsAtSetUp : Type 0
 BoundsAtSetUp = (heads cells : ℕ) (t : Table) → set_up heads cells ≡ Ok t → InBounds t
 
-abbrev pub BoundsKept : (W : Type 0) → Kit W → Type 0
-BoundsKept W kit =
+abbrev pub BoundsKept : {W : Type 0} → Kit W → Type 0
+BoundsKept {W} kit =
     (b : Bench W) (who : Caller) (call : Call ℕ W) → InBounds b.table
     → InBounds (call_of kit b who call).1.table × SameLengths b (call_of kit b who call).1

@@ -25,9 +25,9 @@ module _ {W : Type 0} (closes : List (Commit W)) where
   -- prefix is exactly the closes before its own. Every other word that it read is the one that it wrote there last
   pub record Explained (cells : List W) (a : Attempt W) : Type 0 where
     pub prefix : ℕ
-    pub began : a.began ≤ prefix
-    pub granted : prefix ≤ length closes
-    pub reads : Agrees (cells_after (take prefix closes) cells) a.reads
+    pub is_prefix : prefix ≤ length closes
+    pub has_earlier : a.began ≤ prefix
+    pub explains : Agrees (cells_after (take prefix closes) cells) a.reads
     pub own_place : (q : ℕ) → a.closed ≡ Some q → is_empty a.writes ≡ false → prefix ≡ q
     pub own_reads : All (λ (r : OwnRead W). r.written ≡ Some r.word) a.own_reads
 
@@ -51,7 +51,7 @@ abbrev pub LawsHold : {W : Type 0} → ℕ → List W → List W → List (Made 
 LawsHold patience cells now calls answers = ThreeLaws patience cells now (history_of nothing_yet calls answers)
 
 -- the three laws, of every list of calls on every rig that is set up, whatever lists it is lent
-abbrev pub LawsOfRuns : (W : Type 0) → Kit W → Type 0
-LawsOfRuns W kit =
+abbrev pub LawsOfRuns : {W : Type 0} → Kit W → Type 0
+LawsOfRuns {W} kit =
     (heads cells : ℕ) (b : Bench W) (calls : List (Made W)) → set_up heads cells ≡ Ok b.table
     → LawsHold kit.patience b.cells (left_by kit b calls).cells calls (answers_of kit b calls)

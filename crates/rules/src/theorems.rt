@@ -22,7 +22,7 @@ pub fn examples_stand()
 // A table that is set up is in bounds, and every call keeps it so, whatever the lists hold; no call changes the length of a list.
 pub fn bounds_stand<W: Word, B: Board, P: Policy>(board: &B, policy: &P)
     ensures set_up { BoundsAtSetUp }
-    ensures calls { BoundsKept W (kit_of W.Word B.Board P.Policy board.now policy.now) }
+    ensures calls { BoundsKept (kit_of W.Word B.Board P.Policy board.now policy.now) }
 {}
 
 // Laws of single calls: what a refusal leaves, a list of wrong length, which calls change the cells, and what becomes of the other heads.
@@ -32,5 +32,5 @@ pub fn call_laws_stand<W: Word, B: Board, P: Policy>(board: &B, policy: &P)
 
 // The three laws, of every list of calls since set-up.
 pub fn laws_stand<W: Word, B: Board, P: Policy>(board: &B, policy: &P)
-    ensures { LawsOfRuns W (kit_of W.Word B.Board P.Policy board.now policy.now) }
+    ensures { LawsOfRuns (kit_of W.Word B.Board P.Policy board.now policy.now) }
 {}
