@@ -101,7 +101,7 @@ module _ {W : Type 0} (kit : Kit W) (b : Bench W) (s : InBounds b.table) (k : �
     keeps ys p x px e number = bounds-stay b.table s k lt ys p x px (e ∙ sym going) number
 
     ends : (x : Head) → HeadBounds x → is_idle x.state ≡ true → x.transaction ≡ h.transaction → (sequence commits : ℕ) → commits + sequence / 2 ≤ b.table.commits + b.table.sequence / 2 + 1
-        → InBounds (record { heads = set heads k x; head_count = b.table.head_count; cell_count = b.table.cell_count; sequence = sequence; commits = commits; opened = b.table.opened })
+        → InBounds (record b.table { heads = set heads k x; sequence = sequence; commits = commits })
     ends x px e number = bounds-end b.table s k lt x px e going number
 
     aborted : (ys : List Head) → Swept heads ys → (cause : Cause) → InBounds (table_with b k ys (abort cause h))
@@ -156,13 +156,9 @@ module _ {W : Type 0} (kit : Kit W) (b : Bench W) (s : InBounds b.table) (k : �
     push_kept =
         let x = wrote (h.written + 1) h in (
           by-test (is_last b k)
-              (λ t. InBounds (record {
+              (λ t. InBounds (record b.table {
                 heads = set heads k (become (cond t Idle WritingBack) x);
-                head_count = b.table.head_count;
-                cell_count = b.table.cell_count;
                 sequence = cond t (b.table.sequence + 1) b.table.sequence;
-                commits = b.table.commits;
-                opened = b.table.opened;
               }))
               (λ _. ends (become Idle x) (idle-bounds h own (h.written + 1)) refl refl (b.table.sequence + 1) b.table.commits (omega arith))
               (λ f. keeps heads (swept_none heads) (become WritingBack x)

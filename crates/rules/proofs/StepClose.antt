@@ -72,12 +72,7 @@ module _ {W : Type 0} (kit : Kit W) (law : Lawful kit) (start : List W) (b : Ben
   closes' = l.closes ++ (commit ∷ [])
 
   abbrev page' : Bool → Page W
-  page' writing = record {
-    attempt = record (l.pages h).attempt { closed = Some n };
-    since = (l.pages h).since;
-    attempts = (l.pages h).attempts;
-    writing_back = writing;
-  }
+  page' writing = record (l.pages h) { attempt = record (l.pages h).attempt { closed = Some n }; writing_back = writing }
 
   abbrev end : ℕ → Ended
   end told = record { head = h; since = (l.pages h).since; until = n; attempts = (l.pages h).attempts; told = Some told }

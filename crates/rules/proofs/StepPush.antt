@@ -79,10 +79,10 @@ module _ {W : Type 0} (kit : Kit W) (law : Lawful kit) (start : List W) (b : Ben
       ∙ subst (λ x. put_in (drop x.head.written x.writes) m.cells ≡ cells_after l.closes start) it-me lone.settles
 
   abbrev freed-page : Page W
-  freed-page = record { attempt = (l.pages h).attempt; since = (l.pages h).since; attempts = (l.pages h).attempts; writing_back = false }
+  freed-page = record (l.pages h) { writing_back = false }
 
   abbrev freed : History W
-  freed = record { closes = l.closes; pages = pages_with l.pages h freed-page; past = l.past; ended = l.ended }
+  freed = record l { pages = pages_with l.pages h freed-page }
 
   others-plain : (k : ℕ) (y : Seat W) → slice_get m.heads k ≡ Some y → (k ≡ h → ⊥) → is_writing_back y.head.state ≡ false
   others-plain k y there ne =

@@ -62,7 +62,7 @@ module _ {W : Type 0} (kit : Kit W) (law : Lawful kit) (start : List W) (b : Ben
 
   -- the history of a word that is read from the cells
   from-cells : (w : W) (r : Rig W) → names c me.writes ≡ false
-      → Inv kit start r (record { closes = l.closes; pages = pages_with l.pages h (more-read c w (l.pages h)); past = l.past; ended = l.ended })
+      → Inv kit start r (record l { pages = pages_with l.pages h (more-read c w (l.pages h)) })
       → Inv kit start r (history_after l h (Read c) (Ok (granted.Word w)))
   from-cells w r none new =
       let linked = (inv.heads h me at).live running in

@@ -30,12 +30,7 @@ use Rattle.rules.proofs.Keeping.{Keeps, keep-alone, keep-swept}
 
 -- the attempt with one more write
 abbrev more-written : {W : Type 0} → ℕ → W → Page W → Page W
-more-written c w p = record {
-  attempt = record p.attempt { writes = p.attempt.writes ++ (slot c w ∷ []) };
-  since = p.since;
-  attempts = p.attempts;
-  writing_back = p.writing_back;
-}
+more-written c w p = record p { attempt = record p.attempt { writes = p.attempt.writes ++ (slot c w ∷ []) } }
 
 module _ {W : Type 0} (kit : Kit W) where
   -- a head that a store leaves in hardware has no cell of the line in its read log

@@ -10,7 +10,7 @@ use Rattle.rules.specs.declared.types.State.TheVariants.{Idle}
 use Rattle.rules.specs.declared.types.Table.{Table}
 use Rattle.rules.specs.Heads.{new_head, is_idle, is_hardware, abort}
 use Rattle.rules.specs.Bounds.{HeadBounds, InBounds, busy_heads}
-use Rattle.rules.proofs.Records.{with_heads}
+use Rattle.rules.proofs.Records.{with_heads, with_numbers}
 use Rattle.rules.proofs.Sweeps.{Hit, Swept, swept_none, swept_at, hit-number}
 use Rattle.rules.proofs.HeadBounds.{abort-bounds}
 
@@ -63,7 +63,7 @@ busy-set (x ∷ xs) (suc k) h d lt = let i = busy-set xs k h d (omega arith) in 
 module _ (t : Table) (s : InBounds t) (k : ℕ) (lt : k < 8) where
   pub bounds-with : (ys : List Head) → Swept t.heads ys → (h : Head) → HeadBounds h → (sequence commits opened : ℕ) → opened ≤ 60_000 → t.opened ≤ opened → h.transaction ≤ opened
       → t.opened + (busy h + (commits + sequence / 2)) ≤ opened + (busy (get_or t.heads k new_head) + (t.commits + t.sequence / 2))
-      → InBounds (record { heads = set ys k h; head_count = t.head_count; cell_count = t.cell_count; sequence = sequence; commits = commits; opened = opened })
+      → InBounds (with_numbers t (set ys k h) sequence commits opened)
   bounds-with ys p h ph sequence commits opened le more number used =
       let len : length ys ≡ 8 = sym (length_all_zip Hit t.heads ys p) ∙ s.eight in
       let a = busy-set ys k h new_head (omega arith) in
@@ -94,7 +94,7 @@ module _ (t : Table) (s : InBounds t) (k : ℕ) (lt : k < 8) where
   pub bounds-end : (h : Head) → HeadBounds h → is_idle h.state ≡ true → is_idle (get_or t.heads k new_head).state ≡ false
       → h.transaction ≡ (get_or t.heads k new_head).transaction → (sequence commits : ℕ)
       → commits + sequence / 2 ≤ t.commits + t.sequence / 2 + 1
-      → InBounds (record { heads = set t.heads k h; head_count = t.head_count; cell_count = t.cell_count; sequence = sequence; commits = commits; opened = t.opened })
+      → InBounds (record t { heads = set t.heads k h; sequence = sequence; commits = commits })
   bounds-end h ph idle old number sequence commits le =
       let a : busy h ≡ 0 = ap (λ b. cond b 0 1) idle in
       let c : busy (get_or t.heads k new_head) ≡ 1 = ap (λ b. cond b 0 1) old in
