@@ -6,7 +6,7 @@ use Rattle.parts.specs.declared.calls.Call.{Call}
 use Rattle.rules.specs.declared.types.Caller.{Caller}
 use Rattle.rules.specs.declared.types.Refusal.{Refusal}
 use Rattle.rules.specs.Bench.{Bench, head_at, is_odd}
-use Rattle.rules.specs.Refusals.{lists_fit, is_stale, is_beyond, takes, waits, lacks_slot, lacks_transaction, lacks_attempt, when, first_found, refusals, refusal}
+use Rattle.rules.specs.Refusals.{lengths_match, is_stale, is_beyond, takes, waits, lacks_slot, lacks_transaction, lacks_attempt, when, first_found, refusals, refusal}
 
 when-none : (b : Bool) (e : Refusal) → when b e ≡ None → b ≡ false
 when-none true e q = cc
@@ -23,7 +23,7 @@ pub record Sized {W : Type 0} (b : Bench W) : Type 0 where
   pub reads : length b.reads ≡ 32 * b.table.head_count
   pub writes : length b.writes ≡ 32 * b.table.head_count
 
-pub sized : {W : Type 0} (b : Bench W) → lists_fit b ≡ true → Sized b
+pub sized : {W : Type 0} (b : Bench W) → lengths_match b ≡ true → Sized b
 sized b e =
     let p = and_parts (eqb (length b.cells) b.table.cell_count) (eqb (length b.reads) (32 * b.table.head_count) && eqb (length b.writes) (32 * b.table.head_count)) e in
     let q = and_parts (eqb (length b.reads) (32 * b.table.head_count)) (eqb (length b.writes) (32 * b.table.head_count)) p.1 in
@@ -44,7 +44,7 @@ pub admitted : {W : Type 0} (b : Bench W) (who : Caller) (call : Call ℕ W) →
 admitted b who call e =
     let rows = first-none (refusals b who call) e in
     record {
-      lists = sized b (not-false (lists_fit b) (when-none _ _ rows.0));
+      lists = sized b (not-false (lengths_match b) (when-none _ _ rows.0));
       head = leb-false b.table.head_count who.head (when-none _ _ rows.1.0);
       own = when-none _ _ rows.1.1.0;
       cell = when-none _ _ rows.1.1.1.0;

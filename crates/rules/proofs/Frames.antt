@@ -13,8 +13,8 @@ use Rattle.rules.specs.Kit.{Kit}
 use Rattle.rules.specs.Heads.{is_hardware, is_software, is_aborted, is_writing_back}
 use Rattle.rules.specs.Bench.{is_odd, is_locked_out}
 use Rattle.rules.proofs.Seats.{Seat, Rig, abort_seat, struck_by, locked}
-use Rattle.rules.specs.History.{History, Commit, Attempt, Ended, Page, cells_after, closes_of_others}
-use Rattle.rules.specs.Laws.{Agrees, Explained, Bounded, most_attempts}
+use Rattle.rules.specs.History.{History, GrantedClose, Attempt, EndedTransaction, Page, cells_after, closes_of_others}
+use Rattle.rules.specs.RunLaws.{Agrees, Explained, Bounded, most_attempts}
 use Rattle.rules.proofs.Basics.{by-test, wrong, after-each, nth-set-other, nth-map-some}
 use Rattle.rules.proofs.Sweeps.{locked-out}
 use Rattle.rules.proofs.HistoryLaws.{count-stable, count-grown, explained-grown}
@@ -73,7 +73,7 @@ module _ {W : Type 0} where
   struck-software o o' (inl e) h = e
   struck-software o o' (inr f) h = wrong (sym h ∙ f.1)
 
-module _ {W : Type 0} (patience : ℕ) (start : List W) (S C : ℕ) (cells : List W) (closes : List (Commit W)) where
+module _ {W : Type 0} (patience : ℕ) (start : List W) (S C : ℕ) (cells : List W) (closes : List (GrantedClose W)) where
   pub head-aborts : (k : ℕ) (o : Seat W) (page : Page W) (cause : Cause) → is_hardware o.head.state ≡ true
       → HeadOk patience start S C cells closes k o page → HeadOk patience start S C cells closes k (abort_seat cause o) page
   head-aborts k o page cause e ok =
@@ -97,7 +97,7 @@ module _ {W : Type 0} (patience : ℕ) (start : List W) (S C : ℕ) (cells : Lis
       subst (λ x. HeadOk patience start S C cells closes k x page) (sym f.2) (head-aborts k o page f.0 f.1 ok)
 
   -- more closes, of other heads, and other cells
-  pub head-moved : (S' C' : ℕ) (cells' : List W) (new : List (Commit W)) (k : ℕ) (o : Seat W) (page : Page W)
+  pub head-moved : (S' C' : ℕ) (cells' : List W) (new : List (GrantedClose W)) (k : ℕ) (o : Seat W) (page : Page W)
       → All (λ s. eqb k s.head ≡ false) new → S ≤ S' → C ≤ C'
       → (is_hardware o.head.state ≡ true → Agrees cells' o.reads)
       → (SoftwareOk patience start S C cells closes k o page → o.head.snapshot.sequence ≡ S' → o.head.snapshot.commits ≡ C' → Agrees cells' o.reads)
@@ -168,7 +168,7 @@ module _ {W : Type 0} (heads : List (Seat W)) (cells now : List W) (h : ℕ) (me
 
 -- a call that leaves the two shared numbers, the cells and the closes as they are
 module _ {W : Type 0} (kit : Kit W) (start : List W) (m : Rig W) (l : History W) (inv : Inv kit start m l) where
-  pub quiet : (h : ℕ) (me me' : Seat W) (f : Seat W → Seat W) (pages : ℕ → Page W) (past : List (Attempt W)) (ended : List Ended)
+  pub quiet : (h : ℕ) (me me' : Seat W) (f : Seat W → Seat W) (pages : ℕ → Page W) (past : List (Attempt W)) (ended : List EndedTransaction)
       → slice_get m.heads h ≡ Some me
       → ((o : Seat W) → Struck o (f o))
       → ((k : ℕ) → (k ≡ h → ⊥) → pages k ≡ l.pages k)
@@ -227,8 +227,8 @@ module _ {W : Type 0} (kit : Kit W) (start : List W) (m : Rig W) (l : History W)
   }
 
   -- a call that changes one of them; its head is not in hardware afterwards
-  pub moving : (h : ℕ) (me me' : Seat W) (f : Seat W → Seat W) (S C : ℕ) (cells : List W) (new closes : List (Commit W))
-      (pages : ℕ → Page W) (page : Page W) (past : List (Attempt W)) (ended : List Ended)
+  pub moving : (h : ℕ) (me me' : Seat W) (f : Seat W → Seat W) (S C : ℕ) (cells : List W) (new closes : List (GrantedClose W))
+      (pages : ℕ → Page W) (page : Page W) (past : List (Attempt W)) (ended : List EndedTransaction)
       → slice_get m.heads h ≡ Some me
       → ((o : Seat W) → Struck o (f o))
       → ((k : ℕ) → (k ≡ h → ⊥) → pages k ≡ l.pages k)

@@ -4,8 +4,8 @@ use Rattle.std.proofs.lemmas.List.{take_all, take-take, take-append-le, drop-app
 use Rattle.std.proofs.lemmas.List.Elements.{filter-append, All-head, All-tail}
 use Rattle.rules.specs.declared.types.Slot.{Slot}
 use Rattle.rules.specs.Logs.{is_empty, put_in}
-use Rattle.rules.specs.History.{Commit, Attempt, Ended, cells_after, is_other, closes_of_others}
-use Rattle.rules.specs.Laws.{Agrees, Explained, Bounded}
+use Rattle.rules.specs.History.{GrantedClose, Attempt, EndedTransaction, cells_after, is_other, closes_of_others}
+use Rattle.rules.specs.RunLaws.{Agrees, Explained, Bounded}
 
 pub kept-drop-append : {X : Type 0} (f : X → Bool) (n : ℕ) (a b : List X) → length (filter f (drop n a)) ≤ length (filter f (drop n (a ++ b)))
 kept-drop-append f zero a b = rw (filter-append f a b, length-append (filter f a) (filter f b)) (omega arith)
@@ -21,32 +21,32 @@ take-more-of (suc n) [] b = (take (suc n) b, refl)
 take-more-of {X} (suc n) (x ∷ a) b = let r = take-more-of n a b in (r.0, ap (λ (l : List X). x ∷ l) r.1)
 
 module _ {W : Type 0} where
-  pub after-append : (a b : List (Commit W)) (xs : List W) → cells_after (a ++ b) xs ≡ cells_after b (cells_after a xs)
+  pub after-append : (a b : List (GrantedClose W)) (xs : List W) → cells_after (a ++ b) xs ≡ cells_after b (cells_after a xs)
   after-append [] b xs = refl
   after-append (s ∷ a) b xs = after-append a b (put_in s.writes xs)
 
-  pub count-stable : (closes new : List (Commit W)) (h since until : ℕ) → until ≤ length closes → closes_of_others (closes ++ new) h since until ≡ closes_of_others closes h since until
+  pub count-stable : (closes new : List (GrantedClose W)) (h since until : ℕ) → until ≤ length closes → closes_of_others (closes ++ new) h since until ≡ closes_of_others closes h since until
   count-stable closes new h since until le = ap (λ l. length (filter (is_other h) (drop since l))) (take-append-le until closes new le)
 
-  pub count-mono : (closes : List (Commit W)) (h since p q : ℕ) → p ≤ q → closes_of_others closes h since p ≤ closes_of_others closes h since q
+  pub count-mono : (closes : List (GrantedClose W)) (h since p q : ℕ) → p ≤ q → closes_of_others closes h since p ≤ closes_of_others closes h since q
   count-mono closes h since p q le =
       subst (λ l. closes_of_others closes h since p ≤ length (filter (is_other h) (drop since l))) (sym (take_split p q closes le))
       (kept-drop-append (is_other h) since (take p closes) (drop p (take q closes)))
 
-  pub count-grown : (closes new : List (Commit W)) (h since : ℕ) → closes_of_others closes h since (length closes) ≤ closes_of_others (closes ++ new) h since (length (closes ++ new))
+  pub count-grown : (closes new : List (GrantedClose W)) (h since : ℕ) → closes_of_others closes h since (length closes) ≤ closes_of_others (closes ++ new) h since (length (closes ++ new))
   count-grown closes new h since =
       let same = count-stable closes new h since (length closes) (omega arith) in
       let le : length closes ≤ length (closes ++ new) = rw (length-append closes new) (omega arith) in
       let more = count-mono (closes ++ new) h since (length closes) (length (closes ++ new)) le in
       omega arith
 
-  pub count-more : (closes new : List (Commit W)) (h since until : ℕ) → closes_of_others closes h since until ≤ closes_of_others (closes ++ new) h since until
+  pub count-more : (closes new : List (GrantedClose W)) (h since until : ℕ) → closes_of_others closes h since until ≤ closes_of_others (closes ++ new) h since until
   count-more closes new h since until =
       let r = take-more-of until closes new in
       subst (λ l. closes_of_others closes h since until ≤ length (filter (is_other h) (drop since l))) (sym r.1) (kept-drop-append (is_other h) since (take until closes) r.0)
 
   -- one close with writes of another head after the first p counts one more
-  pub count-charge : (closes : List (Commit W)) (h since p : ℕ) → since ≤ p → p ≤ length closes → 1 ≤ length (filter (is_other h) (drop p closes))
+  pub count-charge : (closes : List (GrantedClose W)) (h since p : ℕ) → since ≤ p → p ≤ length closes → 1 ≤ length (filter (is_other h) (drop p closes))
       → closes_of_others closes h since p + 1 ≤ closes_of_others closes h since (length closes)
   count-charge closes h since p low high one =
       let f = is_other {W = W} h in
@@ -59,7 +59,7 @@ module _ {W : Type 0} where
       omega arith
 
   -- closes of others without writes leave the cells as they are
-  pub after-quiet : (k : ℕ) (closes : List (Commit W)) (xs : List W) → All (λ s. eqb k s.head ≡ false) closes → length (filter (is_other k) closes) ≡ 0 → cells_after closes xs ≡ xs
+  pub after-quiet : (k : ℕ) (closes : List (GrantedClose W)) (xs : List W) → All (λ s. eqb k s.head ≡ false) closes → length (filter (is_other k) closes) ≡ 0 → cells_after closes xs ≡ xs
   after-quiet k [] xs a e = refl
   after-quiet k (s ∷ closes) xs a e =
       quiet (λ h. after-quiet k closes xs (All-tail (λ s. eqb k s.head ≡ false) s closes a) h) s.writes (subst (λ b. length (cond (not b && not (is_empty s.writes)) (s ∷ filter (is_other k) closes) (filter (is_other k) closes)) ≡ 0) (All-head (λ s. eqb k s.head ≡ false) s closes a) e)
@@ -69,7 +69,7 @@ module _ {W : Type 0} where
       quiet go (x ∷ ws) h = absurd (omega arith)
 
   -- a prefix of the closes is one of more closes
-  pub explained-grown : (cells : List W) (closes more new : List (Commit W)) (a : Attempt W) → more ≡ closes ++ new → Explained closes cells a → Explained more cells a
+  pub explained-grown : (cells : List W) (closes more new : List (GrantedClose W)) (a : Attempt W) → more ≡ closes ++ new → Explained closes cells a → Explained more cells a
   explained-grown cells closes more new a e x = record {
     prefix = x.prefix;
     has_earlier = x.has_earlier;
@@ -79,5 +79,5 @@ module _ {W : Type 0} where
     own_reads = x.own_reads;
   }
 
-  pub bounded-grown : (closes new : List (Commit W)) (patience : ℕ) (x : Ended) → Bounded closes patience x → Bounded (closes ++ new) patience x
+  pub bounded-grown : (closes new : List (GrantedClose W)) (patience : ℕ) (x : EndedTransaction) → Bounded closes patience x → Bounded (closes ++ new) patience x
   bounded-grown closes new patience x b = (let more = count-more closes new x.head x.since x.until in omega (arith, b.0), b.1)

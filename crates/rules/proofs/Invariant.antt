@@ -6,8 +6,8 @@ use Rattle.rules.specs.Kit.{Kit}
 use Rattle.rules.specs.Heads.{is_hardware, is_software, is_aborted, is_writing_back}
 use Rattle.rules.specs.Bench.{is_odd}
 use Rattle.rules.proofs.Seats.{Seat, Rig, meets}
-use Rattle.rules.specs.History.{History, Commit, Attempt, Page, cells_after, closes_of_others, last_written}
-use Rattle.rules.specs.Laws.{Agrees, Explained, Bounded, most_attempts}
+use Rattle.rules.specs.History.{History, GrantedClose, Attempt, Page, cells_after, closes_of_others, last_written}
+use Rattle.rules.specs.RunLaws.{Agrees, Explained, Bounded, most_attempts}
 use Rattle.rules.proofs.LogLaws.{Distinct}
 
 -- a running head's logs against what the history has of its attempt
@@ -21,7 +21,7 @@ pub record Linked {W : Type 0} (me : Seat W) (a : Attempt W) : Type 0 where
   pub unclosed : a.closed ≡ None
 
 -- by what is common to the heads: the sequence number S, the commit counter C, the cells and the closes
-module _ {W : Type 0} (patience : ℕ) (start : List W) (S C : ℕ) (cells : List W) (closes : List (Commit W)) where
+module _ {W : Type 0} (patience : ℕ) (start : List W) (S C : ℕ) (cells : List W) (closes : List (GrantedClose W)) where
   -- a hardware head's reads are valid now
   pub record HardwareOk (k : ℕ) (me : Seat W) (page : Page W) : Type 0 where
     pub valid : Agrees cells me.reads

@@ -17,10 +17,10 @@ use Rattle.rules.specs.declared.types.Slot.{Slot}
 use Rattle.rules.specs.declared.types.State.{State}
 use Rattle.rules.specs.declared.types.State.TheVariants.{Idle, WritingBack}
 use Rattle.rules.specs.Kit.{Kit}
-use Rattle.rules.specs.Logs.{is_empty, put, note, is_full, names, put_in, log_of}
+use Rattle.rules.specs.Logs.{is_empty, put, note, lacks_room_for, names, put_in, log_of}
 use Rattle.rules.specs.Heads.{new_head, is_idle, is_hardware, is_software, is_writing_back, abort, enter, begin, state_in}
 use Rattle.rules.specs.Bench.{Bench, head_at, table_with, read_log, write_log, present_snapshot, is_odd, map_at, lock_out, after_loads, cells_validated}
-use Rattle.rules.specs.Calls.{Outcome, granted_open, granted_read, granted_write, granted_close, granted_push, granted_jolt, granted_again, granted_drop, start_write_back, in_range, new_table, again_mode, is_last}
+use Rattle.rules.specs.Calls.{Outcome, admitted_open, admitted_read, admitted_write, admitted_close, admitted_push, admitted_jolt, admitted_again, admitted_drop, start_write_back, in_range, new_table, again_mode, is_last}
 use Rattle.rules.specs.Answers.{Answer}
 use Rattle.rules.specs.Bounds.{HeadBounds, InBounds, SameLengths, BoundsAtSetUp, BoundsKept}
 use Rattle.rules.proofs.Records.{become, wrote, resnap, read_more, wrote_more, cancel}
@@ -31,7 +31,7 @@ use Rattle.rules.proofs.Turns.{going-plain, running-going}
 use Rattle.rules.proofs.Laid.{length-laid}
 use Rattle.rules.proofs.LogLaws.{word_none, few-put, few-noted}
 use Rattle.rules.proofs.Sweeps.{Swept, swept_none, swept-lock}
-use Rattle.rules.proofs.Cases.{granted_of, by_call, by_read, by-write, by-close}
+use Rattle.rules.proofs.Cases.{admitted_of, by_call, by_read, by-write, by-close}
 use Rattle.rules.proofs.HeadBounds.{new-bounds, open-bounds, abort-bounds, begin-bounds, idle-bounds, back-bounds, cancel-bounds, resnap-bounds, read-bounds, write-bounds}
 use Rattle.rules.proofs.TableBounds.{busy, bounds-with, bounds-stay, bounds-end}
 
@@ -86,7 +86,7 @@ module _ {W : Type 0} (kit : Kit W) (b : Bench W) (s : InBounds b.table) (k : �
   lengths : SameLengths b b
   lengths = (refl, refl, refl)
 
-  open_kept : is_idle h.state ≡ true → b.table.opened < 60_000 → Kept b (granted_open b k).left
+  open_kept : is_idle h.state ≡ true → b.table.opened < 60_000 → Kept b (admitted_open b k).left
   open_kept idle few =
       let n = b.table.opened + 1 in
       let old : busy h ≡ 0 = ap (λ t. cond t 0 1) idle in (
@@ -107,19 +107,19 @@ module _ {W : Type 0} (kit : Kit W) (b : Bench W) (s : InBounds b.table) (k : �
     aborted : (ys : List Head) → Swept heads ys → (cause : Cause) → InBounds (table_with b k ys (abort cause h))
     aborted ys p cause = keeps ys p (abort cause h) (abort-bounds h own cause) refl refl
 
-    read_kept : (c : ℕ) → 32 * k + 32 ≤ length b.reads → (not (names c (write_log b k)) && is_full c (read_log b k)) ≡ false → Kept b (granted_read kit b k c).left
+    read_kept : (c : ℕ) → 32 * k + 32 ≤ length b.reads → (not (names c (write_log b k)) && lacks_room_for c (read_log b k)) ≡ false → Kept b (admitted_read kit b k c).left
     read_kept c room slot =
         by_read kit b k c (λ (o : Outcome W W). Kept b o.left) (λ _. (s, lengths)) (s, lengths)
         (λ e ys p snap w.
         let log = note c w (read_log b k) in
-        let free : is_full c (read_log b k) ≡ false = sym (ap (λ t. not t && is_full c (read_log b k)) (word_none c (write_log b k) e)) ∙ slot in
+        let free : lacks_room_for c (read_log b k) ≡ false = sym (ap (λ t. not t && lacks_room_for c (read_log b k)) (word_none c (write_log b k) e)) ∙ slot in
         let few : length log ≤ 32 = few-noted c w (read_log b k) (omega (arith, length-log k h.reads b.reads, own.reads)) free in (
           keeps ys p (read_more (length log) (resnap snap h)) (read-bounds (resnap snap h) (resnap-bounds h own snap) (length log) few) going refl,
           (refl, length-laid k log b.reads few room, refl),
         ))
         (λ ys p cause. (aborted ys p cause, lengths))
 
-    write_kept : (c : ℕ) (w : W) → is_writing_back h.state ≡ false → 32 * k + 32 ≤ length b.writes → is_full c (write_log b k) ≡ false → Kept b (granted_write kit b k c w).left
+    write_kept : (c : ℕ) (w : W) → is_writing_back h.state ≡ false → 32 * k + 32 ≤ length b.writes → lacks_room_for c (write_log b k) ≡ false → Kept b (admitted_write kit b k c w).left
     write_kept c w not_back room free =
         let log = put c w (write_log b k) in
         let few : length log ≤ 32 = few-put c w (write_log b k) (omega (arith, length-log k h.writes b.writes, own.writes)) free in
@@ -142,7 +142,7 @@ module _ {W : Type 0} (kit : Kit W) (b : Bench W) (s : InBounds b.table) (k : �
         (b.table.sequence + 1) b.table.commits b.table.opened s.opened (omega arith) (let le = s.numbered k new_head (omega (arith, s.eight)) in omega arith) (omega (arith, eqb-false (b.table.sequence % 2) 1 even))
 
     close-kept : (is_hardware h.state ≡ false → is_software h.state ≡ true)
-        → ((is_software h.state && not (is_empty (write_log b k))) && is_odd b.table.sequence) ≡ false → Kept b (granted_close kit b k).left
+        → ((is_software h.state && not (is_empty (write_log b k))) && is_odd b.table.sequence) ≡ false → Kept b (admitted_close kit b k).left
     close-kept software free =
         by-close kit b k (λ (o : Outcome Closing W). Kept b o.left)
         (λ _. (
@@ -152,7 +152,7 @@ module _ {W : Type 0} (kit : Kit W) (b : Bench W) (s : InBounds b.table) (k : �
         (ends (become Idle h) (idle-bounds h own h.written) refl refl b.table.sequence b.table.commits (omega arith), lengths)
         (λ f some. (starts (software f) some free, lengths)) (λ ys p. (aborted ys p Changed, lengths))
 
-    push_kept : Kept b (granted_push b k).left
+    push_kept : Kept b (admitted_push b k).left
     push_kept =
         let x = wrote (h.written + 1) h in (
           by-test (is_last b k)
@@ -166,15 +166,15 @@ module _ {W : Type 0} (kit : Kit W) (b : Bench W) (s : InBounds b.table) (k : �
           (length-put-in (take 1 (drop h.written (write_log b k))) b.cells, refl, refl),
         )
 
-    jolt-kept : Kept b (granted_jolt b k).left
+    jolt-kept : Kept b (admitted_jolt b k).left
     jolt-kept = (aborted heads (swept_none heads) Other, lengths)
 
-    again_kept : h.attempts < 70_000 → Kept b (granted_again kit b k).left
+    again_kept : h.attempts < 70_000 → Kept b (admitted_again kit b k).left
     again_kept few =
         let m = again_mode kit b k in
         (keeps heads (swept_none heads) (begin m (present_snapshot b.table) h) (begin-bounds h own m (present_snapshot b.table) few) (begun-busy m) refl, lengths)
 
-    drop-kept : Kept b (granted_drop b k).left
+    drop-kept : Kept b (admitted_drop b k).left
     drop-kept = (ends (cancel h) (cancel-bounds h own) refl refl b.table.sequence b.table.commits (omega arith), lengths)
 
 module _ {W : Type 0} (kit : Kit W) (b : Bench W) (s : InBounds b.table) (who : Caller) where
@@ -184,7 +184,7 @@ module _ {W : Type 0} (kit : Kit W) (b : Bench W) (s : InBounds b.table) (who : 
   abbrev state : State
   state = (head_at b k).state
 
-  granted-kept : (call : Call ℕ W) → Admitted b who call → k < 8 → Kept b (granted_of kit b k call).1
+  granted-kept : (call : Call ℕ W) → Admitted b who call → k < 8 → Kept b (admitted_of kit b k call).1
   granted-kept Open a lt = open_kept kit b s k lt a.taken (leb-false 60_000 b.table.opened a.transaction)
   granted-kept (Read c) a lt = read_kept kit b s k lt (taken-busy {W = W} (Read c) state refl a.taken) c (omega (arith, a.head, a.lists.reads)) a.slot
   granted-kept (Write c w) a lt =

@@ -5,7 +5,7 @@ pub mod Laid
 pub mod Taken
 pub mod Sweeps
 pub mod Cases
-pub mod AtAGlance
+pub mod LawsOfCalls
 pub mod HeadBounds
 pub mod TableBounds
 pub mod KeptBounds

@@ -6,10 +6,10 @@ use Rattle.std.proofs.lemmas.Bool.{eqb-true, eqb-false, or_parts, or_cases, and_
 use Rattle.std.proofs.lemmas.List.{set-set, set_comm, length-append, reverse-append}
 use Rattle.std.proofs.lemmas.List.Elements.{All-append, All-nil, All-cons, All-head, All-tail}
 use Rattle.rules.specs.declared.types.Slot.{Slot}
-use Rattle.rules.specs.Logs.{slot, is_empty, names, word_for, put, note, is_full, put_in}
+use Rattle.rules.specs.Logs.{slot, is_empty, names, word_for, put, note, lacks_room_for, put_in}
 use Rattle.rules.specs.Kit.{Kit, Lawful}
 use Rattle.rules.specs.Bench.{Bench, holds, holds_same}
-use Rattle.rules.specs.Laws.{Agrees}
+use Rattle.rules.specs.RunLaws.{Agrees}
 use Rattle.rules.proofs.Seats.{meets}
 use Rattle.rules.proofs.Basics.{eqb-flip, by-test, by-option, wrong, nth-set-other, any_none, all-append-left, all-append-right, all_both}
 use Rattle.rules.specs.History.{last_written}
@@ -139,7 +139,7 @@ module _ {W : Type 0} where
       (all-append-right (AgreesAt xs) log (slot c w ∷ []) h))
 
   -- a word that has a slot or finds one free leaves at most 32
-  pub few-noted : (c : ℕ) (w : W) (log : List (Slot W)) → length log ≤ 32 → is_full c log ≡ false → length (note c w log) ≤ 32
+  pub few-noted : (c : ℕ) (w : W) (log : List (Slot W)) → length log ≤ 32 → lacks_room_for c log ≡ false → length (note c w log) ≤ 32
   few-noted c w log le room =
       by-test (names c log) (λ b. (not b && leb 32 (length log)) ≡ false → length (cond b log (log ++ (slot c w ∷ []))) ≤ 32) (λ _ _. le)
       (λ _ e. let lt = leb-false 32 (length log) e in let n = length-append log (slot c w ∷ []) in omega arith) room
@@ -150,7 +150,7 @@ module _ {W : Type 0} where
       by-test (eqb c s.cell) (λ b. length (cond b (slot c w ∷ log) (s ∷ put c w log)) ≡ cond (b || names c log) (suc (length log)) (suc (length log) + 1)) (λ _. refl)
       (λ _. ap suc (length-put c w log) ∙ by-test (names c log) (λ b. suc (cond b (length log) (length log + 1)) ≡ cond b (suc (length log)) (suc (length log) + 1)) (λ _. refl) (λ _. omega arith))
 
-  pub few-put : (c : ℕ) (w : W) (log : List (Slot W)) → length log ≤ 32 → is_full c log ≡ false → length (put c w log) ≤ 32
+  pub few-put : (c : ℕ) (w : W) (log : List (Slot W)) → length log ≤ 32 → lacks_room_for c log ≡ false → length (put c w log) ≤ 32
   few-put c w log le room =
       subst (λ n. n ≤ 32) (sym (length-put c w log))
       (by-test (names c log) (λ b. (not b && leb 32 (length log)) ≡ false → cond b (length log) (length log + 1) ≤ 32) (λ _ _. le)

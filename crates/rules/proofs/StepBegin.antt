@@ -14,11 +14,11 @@ use Rattle.rules.specs.declared.types.State.TheVariants.{Idle, Hardware, Softwar
 use Rattle.rules.specs.Kit.{Kit, Lawful}
 use Rattle.rules.specs.Heads.{is_idle, is_hardware, is_software, is_aborted, abort, enter, begin, next_mode}
 use Rattle.rules.specs.Bench.{Bench, head_at, present_snapshot, is_odd}
-use Rattle.rules.specs.Calls.{becomes, granted_open, granted_jolt, granted_drop, granted_again, again_mode}
+use Rattle.rules.specs.Calls.{becomes, admitted_open, admitted_jolt, admitted_drop, admitted_again, again_mode}
 use Rattle.rules.specs.Answers.{with_answer}
 use Rattle.rules.specs.Bounds.{InBounds}
 use Rattle.rules.specs.History.{History, cells_after, closes_of_others}
-use Rattle.rules.specs.Laws.{Explained, Bounded, most_attempts}
+use Rattle.rules.specs.RunLaws.{Explained, Bounded, most_attempts}
 use Rattle.rules.proofs.Records.{cancel}
 use Rattle.rules.proofs.Basics.{wrong}
 use Rattle.rules.proofs.Admitted.{Sized}
@@ -41,7 +41,7 @@ module _ {W : Type 0} (kit : Kit W) (law : Lawful kit) (start : List W) (b : Ben
   at : slice_get m.heads h ≡ Some me
   at = seat-there b bounds lists h lt
 
-  pub keep-drop : (is_hardware me.head.state || (is_software me.head.state || is_aborted me.head.state)) ≡ true → Keeps kit start l h Drop (with_answer (λ _. granted.Done) (granted_drop b h))
+  pub keep-drop : (is_hardware me.head.state || (is_software me.head.state || is_aborted me.head.state)) ≡ true → Keeps kit start l h Drop (with_answer (λ _. granted.Done) (admitted_drop b h))
   keep-drop going =
       let plain = going-plain me.head.state going in
       let o = inv.heads h me at in
@@ -60,14 +60,14 @@ module _ {W : Type 0} (kit : Kit W) (law : Lawful kit) (start : List W) (b : Ben
       plain refl (λ _. refl) (λ k it there ne hm. wrong hm) inv.past (inv.present h)
       (All-cons (Bounded l.closes kit.patience) _ l.ended (inv.bound h, λ n e. cc) inv.ended) (inv.bound h))
 
-  pub keep-jolt : is_hardware me.head.state ≡ true → Keeps kit start l h Jolt (with_answer (λ _. granted.Done) (granted_jolt b h))
+  pub keep-jolt : is_hardware me.head.state ≡ true → Keeps kit start l h Jolt (with_answer (λ _. granted.Done) (admitted_jolt b h))
   keep-jolt hardware =
       keep-alone kit start _ b bounds lists h lt b.table.sequence b.table.commits b.table.opened (abort Other (head_at b h)) b.cells b.reads b.writes (untouched b bounds lists h lt)
       (quiet_at kit start m l inv h me at _ (λ o. o) l.pages (l.pages h) l.past l.ended struck-same (λ k ne. refl) refl
       (head-aborts kit.patience start m.sequence m.commits m.cells l.closes h me (l.pages h) Other hardware (inv.heads h me at))
       (hardware-not-writing me.head.state hardware) refl (λ _. refl) (λ k it there ne hm. wrong hm) inv.past (inv.present h) inv.ended (inv.bound h))
 
-  pub keep-open : is_idle me.head.state ≡ true → is_odd m.sequence ≡ false → Keeps kit start l h Open (with_answer granted.Begun (granted_open b h))
+  pub keep-open : is_idle me.head.state ≡ true → is_odd m.sequence ≡ false → Keeps kit start l h Open (with_answer granted.Begun (admitted_open b h))
   keep-open idle even =
       let n = length l.closes in
       keep-alone kit start _ b bounds lists h lt b.table.sequence b.table.commits (b.table.opened + 1) (begin mode.Hardware (present_snapshot b.table) (enter (b.table.opened + 1) (head_at b h)))
@@ -104,7 +104,7 @@ module _ {W : Type 0} (kit : Kit W) (law : Lawful kit) (start : List W) (b : Ben
   stays-hardware (Aborted Changed) e = cc
   stays-hardware WritingBack e = cc
 
-  pub keep-again : is_aborted me.head.state ≡ true → is_odd m.sequence ≡ false → Keeps kit start l h Again (with_answer granted.Begun (granted_again kit b h))
+  pub keep-again : is_aborted me.head.state ≡ true → is_odd m.sequence ≡ false → Keeps kit start l h Again (with_answer granted.Begun (admitted_again kit b h))
   keep-again aborted even =
       let n = length l.closes in
       let o = inv.heads h me at in

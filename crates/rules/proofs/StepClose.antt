@@ -15,11 +15,11 @@ use Rattle.rules.specs.Kit.{Kit, Lawful}
 use Rattle.rules.specs.Logs.{is_empty, put_in}
 use Rattle.rules.specs.Heads.{is_hardware, is_software, is_aborted, is_writing_back, abort}
 use Rattle.rules.specs.Bench.{Bench, head_at, present_snapshot, is_odd, is_valid, cells_validated, abort_if_hit, hit_by_loads, lock_out}
-use Rattle.rules.specs.Calls.{Outcome, becomes, hardware_close, software_close, granted_close}
+use Rattle.rules.specs.Calls.{Outcome, becomes, hardware_close, software_close, admitted_close}
 use Rattle.rules.specs.Answers.{with_answer}
 use Rattle.rules.specs.Bounds.{InBounds}
-use Rattle.rules.specs.History.{History, Commit, Ended, Page, pages_with, cells_after, closes_of_others}
-use Rattle.rules.specs.Laws.{Agrees, Explained, Bounded, most_attempts}
+use Rattle.rules.specs.History.{History, GrantedClose, EndedTransaction, Page, pages_with, cells_after, closes_of_others}
+use Rattle.rules.specs.RunLaws.{Agrees, Explained, Bounded, most_attempts}
 use Rattle.rules.proofs.Records.{bench, with_numbers, become, wrote, resnap}
 use Rattle.rules.proofs.Basics.{wrong, nth-set-same, nth-map-some, after-each}
 use Rattle.rules.proofs.Admitted.{Sized}
@@ -65,16 +65,16 @@ module _ {W : Type 0} (kit : Kit W) (law : Lawful kit) (start : List W) (b : Ben
   abbrev n : ℕ
   n = length l.closes
 
-  abbrev commit : Commit W
+  abbrev commit : GrantedClose W
   commit = record { head = h; writes = (l.pages h).attempt.writes }
 
-  abbrev closes' : List (Commit W)
+  abbrev closes' : List (GrantedClose W)
   closes' = l.closes ++ (commit ∷ [])
 
   abbrev page' : Bool → Page W
   page' writing = record (l.pages h) { attempt = record (l.pages h).attempt { closed = Some n }; writing_back = writing }
 
-  abbrev end : ℕ → Ended
+  abbrev end : ℕ → EndedTransaction
   end told = record { head = h; since = (l.pages h).since; until = n; attempts = (l.pages h).attempts; told = Some told }
 
   abbrev l' : Bool → History W
@@ -155,7 +155,7 @@ module _ {W : Type 0} (kit : Kit W) (law : Lawful kit) (start : List W) (b : Ben
       (λ e. wrong (sym even ∙ e))
       inv.past (explained-all false even (o.hardware hardware).valid) (ended-ok false) bound-ok)
 
-  keep-empty : is_software me.head.state ≡ true → is_empty me.writes ≡ true → Kept (becomes b h (Ok (closing.Done (head_at b h).attempts)) (become Idle (head_at b h)))
+  keep-empty : is_software me.head.state ≡ true → is_empty me.writes ≡ true → Kept (becomes b h (Ok (closing.Complete (head_at b h).attempts)) (become Idle (head_at b h)))
   keep-empty software none =
       let o = inv.heads h me at in
       let linked = o.live running in
@@ -229,7 +229,7 @@ module _ {W : Type 0} (kit : Kit W) (law : Lawful kit) (start : List W) (b : Ben
       strike (loaded kit (cells_validated kit b h)) (conflict-seen b bounds lists h lt b.reads b.writes (untouched b bounds lists h lt) (hit_by_loads kit (cells_validated kit b h)))
       (changed kit law start b l inv h at software even e))
 
-  pub keep-close : ((is_software me.head.state && not (is_empty me.writes)) && is_odd m.sequence) ≡ false → Kept (granted_close kit b h)
+  pub keep-close : ((is_software me.head.state && not (is_empty me.writes)) && is_odd m.sequence) ≡ false → Kept (admitted_close kit b h)
   keep-close calm =
       cond_both (is_hardware me.head.state) _ _ Kept (λ hardware. keep-hardware hardware)
       (λ rigid.

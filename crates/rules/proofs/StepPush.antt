@@ -14,7 +14,7 @@ use Rattle.rules.specs.Kit.{Kit, Lawful}
 use Rattle.rules.specs.Logs.{put_in}
 use Rattle.rules.specs.Heads.{is_hardware, is_writing_back}
 use Rattle.rules.specs.Bench.{Bench, head_at, is_odd}
-use Rattle.rules.specs.Calls.{granted_push}
+use Rattle.rules.specs.Calls.{admitted_push}
 use Rattle.rules.specs.Answers.{with_answer}
 use Rattle.rules.specs.Bounds.{InBounds}
 use Rattle.rules.specs.History.{History, Page, pages_with, cells_after}
@@ -136,11 +136,11 @@ module _ {W : Type 0} (kit : Kit W) (law : Lawful kit) (start : List W) (b : Ben
       })
       inv.past (inv.present h) inv.ended (inv.bound h)
 
-  pub keep-push : Keeps kit start l h Push (with_answer granted.Left (granted_push b h))
+  pub keep-push : Keeps kit start l h Push (with_answer granted.SlotsLeft (admitted_push b h))
   keep-push =
       let last = leb (length me.writes) (me.head.written + 1) in
       let x : Bool → Head = λ t. become (cond t Idle WritingBack) (wrote (me.head.written + 1) (head_at b h)) in
-      subst (λ t. Inv kit start (view (granted_push b h).left) (cond t freed l)) (sym (left-none (length me.writes) (me.head.written + 1)))
+      subst (λ t. Inv kit start (view (admitted_push b h).left) (cond t freed l)) (sym (left-none (length me.writes) (me.head.written + 1)))
       (keep-alone kit start (cond last freed l) b bounds lists h lt (cond last (b.table.sequence + 1) b.table.sequence) b.table.commits b.table.opened (x last) rest b.reads b.writes (untouched b bounds lists h lt)
       (by-test last
       (λ t. Inv kit start

@@ -8,14 +8,14 @@ use Rattle.rules.specs.declared.types.Granted.TheVariants as granted
 use Rattle.rules.specs.declared.types.Head.{Head}
 use Rattle.rules.specs.declared.types.Slot.{Slot}
 use Rattle.rules.specs.Kit.{Kit, Lawful}
-use Rattle.rules.specs.Logs.{slot, is_empty, names, word_for, note, is_full, put_in, log_of, slots_with}
+use Rattle.rules.specs.Logs.{slot, is_empty, names, word_for, note, lacks_room_for, put_in, log_of, slots_with}
 use Rattle.rules.specs.Heads.{is_hardware, is_software, abort}
 use Rattle.rules.specs.Bench.{Bench, head_at, present_snapshot, is_odd, is_valid, cells_validated, after_loads, abort_if_hit, hit_by_loads}
-use Rattle.rules.specs.Calls.{Outcome, leaves, logged_or, with_word, notes_word, hardware_read, software_read, fits_read, granted_read}
+use Rattle.rules.specs.Calls.{Outcome, leaves, logged_or, with_word, notes_word, hardware_read, software_read, fits_read, admitted_read}
 use Rattle.rules.specs.Answers.{with_answer}
 use Rattle.rules.specs.Bounds.{InBounds}
 use Rattle.rules.specs.History.{History, Page, pages_with, history_after, last_written, OwnRead}
-use Rattle.rules.specs.Laws.{Agrees, Explained}
+use Rattle.rules.specs.RunLaws.{Agrees, Explained}
 use Rattle.rules.proofs.Records.{resnap, read_more}
 use Rattle.rules.proofs.Basics.{eqb-flip, by-option, wrong, any_none, all_both}
 use Rattle.rules.proofs.Admitted.{Sized}
@@ -103,7 +103,7 @@ module _ {W : Type 0} (kit : Kit W) (law : Lawful kit) (start : List W) (b : Ben
   Kept o = Keeps kit start l h (Read c) (with_answer granted.Word o)
 
   -- there is a slot for the word
-  module _ (w : W) (room : is_full c me.reads ≡ false) where
+  module _ (w : W) (room : lacks_room_for c me.reads ≡ false) where
     abbrev new : List (Slot W)
     new = note c w me.reads
 
@@ -128,7 +128,7 @@ module _ {W : Type 0} (kit : Kit W) (law : Lawful kit) (start : List W) (b : Ben
         (conflict-seen b bounds lists h lt after b.writes (reads-laid b bounds lists h lt new few) (hit_by_loads kit cs))
         (subst (λ (s : Seat W). Inv kit start (record { heads = set (map (loaded kit cs) m.heads) h s; sequence = m.sequence; commits = m.commits; cells = m.cells }) l') (sym mine) i)
 
-  keep-software : (w : W) → is_full c me.reads ≡ false → slice_get m.cells c ≡ Some w → names c me.writes ≡ false → is_software me.head.state ≡ true → is_odd m.sequence ≡ false
+  keep-software : (w : W) → lacks_room_for c me.reads ≡ false → slice_get m.cells c ≡ Some w → names c me.writes ≡ false → is_software me.head.state ≡ true → is_odd m.sequence ≡ false
       → Kept (software_read kit b h c w)
   keep-software w room here none software even =
       let o = inv.heads h me at in
@@ -178,7 +178,7 @@ module _ {W : Type 0} (kit : Kit W) (law : Lawful kit) (start : List W) (b : Ben
       (conflict-seen b bounds lists h lt b.reads b.writes (untouched b bounds lists h lt) (hit_by_loads kit (cells_validated kit b h)))
       (changed kit law start b l inv h at software even e))
 
-  keep-hardware : (w : W) → is_full c me.reads ≡ false → slice_get m.cells c ≡ Some w → names c me.writes ≡ false → is_hardware me.head.state ≡ true → Kept (hardware_read kit b h c w)
+  keep-hardware : (w : W) → lacks_room_for c me.reads ≡ false → slice_get m.cells c ≡ Some w → names c me.writes ≡ false → is_hardware me.head.state ≡ true → Kept (hardware_read kit b h c w)
   keep-hardware w room here none hardware =
       let o = inv.heads h me at in
       let k = o.hardware hardware in
@@ -271,14 +271,14 @@ module _ {W : Type 0} (kit : Kit W) (law : Lawful kit) (start : List W) (b : Ben
       })
       inv.ended (inv.bound h))
 
-  pub keep-read : ((is_software me.head.state && not (names c me.writes)) && is_odd m.sequence) ≡ false → (not (names c me.writes) && is_full c me.reads) ≡ false
-      → Kept (granted_read kit b h c)
+  pub keep-read : ((is_software me.head.state && not (names c me.writes)) && is_odd m.sequence) ≡ false → (not (names c me.writes) && lacks_room_for c me.reads) ≡ false
+      → Kept (admitted_read kit b h c)
   keep-read calm room =
       by-option (word_for c me.writes)
       (λ o. Kept (logged_or o (λ w. leaves b h (Ok w) b.table) (with_word (slice_get m.cells c) b from_cell)))
       (λ e.
       let none = word_none c me.writes e in
-      let few = gate (not (names c me.writes)) (is_full c me.reads) room (ap not none) in
+      let few = gate (not (names c me.writes)) (lacks_room_for c me.reads) room (ap not none) in
       by-option (slice_get m.cells c) (λ o. Kept (with_word o b from_cell)) (λ _. inv)
       (λ w here. cond_both (is_hardware me.head.state) _ _ Kept
       (λ hardware. keep-hardware w few here none hardware)

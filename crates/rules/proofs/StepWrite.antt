@@ -8,14 +8,14 @@ use Rattle.rules.specs.declared.types.Granted.TheVariants as granted
 use Rattle.rules.specs.declared.types.Head.{Head}
 use Rattle.rules.specs.declared.types.Slot.{Slot}
 use Rattle.rules.specs.Kit.{Kit, Lawful}
-use Rattle.rules.specs.Logs.{slot, put, is_full, slots_with}
+use Rattle.rules.specs.Logs.{slot, put, lacks_room_for, slots_with}
 use Rattle.rules.specs.Heads.{is_hardware, is_software, abort}
 use Rattle.rules.specs.Bench.{Bench, head_at, abort_if_hit, hit_by_store}
-use Rattle.rules.specs.Calls.{Outcome, puts_word, fits_write, hardware_write, granted_write}
+use Rattle.rules.specs.Calls.{Outcome, puts_word, fits_write, hardware_write, admitted_write}
 use Rattle.rules.specs.Answers.{with_answer}
 use Rattle.rules.specs.Bounds.{InBounds}
 use Rattle.rules.specs.History.{History, Page, history_after}
-use Rattle.rules.specs.Laws.{Explained}
+use Rattle.rules.specs.RunLaws.{Explained}
 use Rattle.rules.proofs.Records.{wrote_more}
 use Rattle.rules.proofs.Basics.{by-test, wrong}
 use Rattle.rules.proofs.Admitted.{Sized}
@@ -42,7 +42,7 @@ module _ {W : Type 0} (kit : Kit W) where
 
 module _ {W : Type 0} (kit : Kit W) (law : Lawful kit) (start : List W) (b : Bench W) (l : History W) (inv : Inv kit start (view b) l) (bounds : InBounds b.table) (lists : Sized b)
     (h : ℕ) (lt : h < b.table.head_count) (c : ℕ) (w : W) (running : (is_hardware (head_at b h).state || is_software (head_at b h).state) ≡ true)
-    (room : is_full c (seat_of b h).writes ≡ false) where
+    (room : lacks_room_for c (seat_of b h).writes ≡ false) where
   abbrev m : Rig W
   m = view b
 
@@ -178,7 +178,7 @@ module _ {W : Type 0} (kit : Kit W) (law : Lawful kit) (start : List W) (b : Ben
       })
       plain refl (λ _. refl) (λ k it there ne hm. wrong hm) inv.past (inv.present h) inv.ended (inv.bound h)))
 
-  pub keep-write : Kept (granted_write kit b h c w)
+  pub keep-write : Kept (admitted_write kit b h c w)
   keep-write =
       cond_both (is_hardware me.head.state) _ _ Kept (λ hardware. keep-hardware hardware)
       (λ rigid. keep-software (sym (ap (λ t. t || is_software me.head.state) rigid) ∙ running))

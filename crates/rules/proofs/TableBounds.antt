@@ -9,7 +9,7 @@ use Rattle.rules.specs.declared.types.State.{State}
 use Rattle.rules.specs.declared.types.State.TheVariants.{Idle}
 use Rattle.rules.specs.declared.types.Table.{Table}
 use Rattle.rules.specs.Heads.{new_head, is_idle, is_hardware, abort}
-use Rattle.rules.specs.Bounds.{HeadBounds, InBounds, busy_heads}
+use Rattle.rules.specs.Bounds.{HeadBounds, InBounds, active_heads}
 use Rattle.rules.proofs.Records.{with_heads, with_numbers}
 use Rattle.rules.proofs.Sweeps.{Hit, Swept, swept_none, swept_at, hit-number}
 use Rattle.rules.proofs.HeadBounds.{abort-bounds}
@@ -47,14 +47,14 @@ swept-numbers xs ys n m le p q k d lt =
 abbrev pub busy : Head → ℕ
 busy h = cond (is_idle h.state) 0 1
 
-swept-busy : (xs ys : List Head) → Swept xs ys → busy_heads ys ≡ busy_heads xs
+swept-busy : (xs ys : List Head) → Swept xs ys → active_heads ys ≡ active_heads xs
 swept-busy [] [] p = refl
 swept-busy [] (y ∷ ys) p = absurd p
 swept-busy (x ∷ xs) [] p = absurd p
 swept-busy (x ∷ xs) (y ∷ ys) p =
     let a : busy y ≡ busy x = ap (λ b. cond b 0 1) (hit-idle x y p.0) in let b = swept-busy xs ys p.1 in omega arith
 
-busy-set : (xs : List Head) (k : ℕ) (h d : Head) → k < length xs → busy_heads (set xs k h) + busy (get_or xs k d) ≡ busy_heads xs + busy h
+busy-set : (xs : List Head) (k : ℕ) (h d : Head) → k < length xs → active_heads (set xs k h) + busy (get_or xs k d) ≡ active_heads xs + busy h
 busy-set [] k h d lt = absurd (omega arith)
 busy-set (x ∷ xs) zero h d lt = omega arith
 busy-set (x ∷ xs) (suc k) h d lt = let i = busy-set xs k h d (omega arith) in omega arith

@@ -6,9 +6,9 @@ use Rattle.std.proofs.lemmas.List.Elements.{All-nil}
 use Rattle.parts.specs.declared.calls.Call.{Call}
 use Rattle.parts.specs.declared.calls.Call.TheVariants.{Open, Read, Write, Close, Push, Jolt, Again, Drop}
 use Rattle.rules.specs.declared.types.Caller.{Caller}
-use Rattle.rules.specs.declared.types.Lent.{Lent}
-use Rattle.rules.specs.declared.types.Lent.TheVariants as lent
-use Rattle.rules.specs.declared.types.Made.{Made}
+use Rattle.rules.specs.declared.types.LentLists.{LentLists}
+use Rattle.rules.specs.declared.types.LentLists.TheVariants as lent
+use Rattle.rules.specs.declared.types.MadeCall.{MadeCall}
 use Rattle.rules.specs.declared.types.Refusal.{Refusal}
 use Rattle.rules.specs.declared.types.Refusal.TheVariants as refuse
 use Rattle.rules.specs.declared.types.Slot.{Slot}
@@ -19,12 +19,12 @@ use Rattle.rules.specs.Calls.{new_table}
 use Rattle.rules.specs.Answers.{call_of}
 use Rattle.rules.specs.Bounds.{InBounds}
 use Rattle.rules.specs.Runs.{step_with, step, answers_of, left_by}
-use Rattle.rules.specs.History.{History, blank, nothing_yet, history_after, history_of, cells_after}
-use Rattle.rules.specs.Laws.{ThreeLaws, Explained, Bounded}
+use Rattle.rules.specs.History.{History, blank_page, nothing_yet, history_after, history_of, cells_after}
+use Rattle.rules.specs.RunLaws.{ThreeLaws, Explained, Bounded}
 use Rattle.rules.proofs.Records.{bench}
 use Rattle.rules.proofs.Basics.{by-test, wrong}
 use Rattle.rules.proofs.Admitted.{Admitted, admitted}
-use Rattle.rules.proofs.Cases.{granted_of, by_call}
+use Rattle.rules.proofs.Cases.{admitted_of, by_call}
 use Rattle.rules.proofs.Seats.{Seat, Rig, seats, view}
 use Rattle.rules.proofs.Invariant.{HeadOk, Inv}
 use Rattle.rules.proofs.KeptBounds.{bounds-kept}
@@ -42,7 +42,7 @@ module _ {W : Type 0} (kit : Kit W) (law : Lawful kit) (start : List W) where
   refused-entry l k call e = refl
 
   module _ (b : Bench W) (l : History W) (inv : Inv kit start (view b) l) (bounds : InBounds b.table) (who : Caller) where
-    keep-granted : (call : Call ℕ W) → Admitted b who call → Keeps kit start l who.head call (granted_of kit b who.head call)
+    keep-granted : (call : Call ℕ W) → Admitted b who call → Keeps kit start l who.head call (admitted_of kit b who.head call)
     keep-granted Open a = keep-open kit law start b l inv bounds a.lists who.head a.head a.taken a.free
     keep-granted (Read c) a = keep-read kit law start b l inv bounds a.lists who.head a.head c a.taken a.free a.slot
     keep-granted (Write c w) a = keep-write kit law start b l inv bounds a.lists who.head a.head c w a.taken a.slot
@@ -59,12 +59,12 @@ module _ {W : Type 0} (kit : Kit W) (law : Lawful kit) (start : List W) where
         (λ e _. subst (Inv kit start (view b)) (sym (refused-entry l who.head call e)) inv) (λ none. keep-granted call (admitted b who call none))
 
   -- a call with the lists as they are, or with one of wrong length
-  keep-made : (b : Bench W) (l : History W) (call : Made W) (lists : Lent) → InBounds b.table → Inv kit start (view b) l
+  keep-made : (b : Bench W) (l : History W) (call : MadeCall W) (lists : LentLists) → InBounds b.table → Inv kit start (view b) l
       → InBounds (step_with kit b call lists).1.table × Inv kit start (view (step_with kit b call lists).1) (history_after l call.caller.head call.call (step_with kit b call lists).0)
   keep-made b l call lent.Right bounds inv = ((bounds-kept kit b call.caller call.call bounds).0, keep-call b l inv bounds call.caller call.call)
   keep-made b l call lent.Wrong bounds inv = (bounds, subst (Inv kit start (view b)) (sym (refused-entry l call.caller.head call.call refuse.Lists)) inv)
 
-  pub keep_all : (b : Bench W) (l : History W) (calls : List (Made W)) → InBounds b.table → Inv kit start (view b) l
+  pub keep_all : (b : Bench W) (l : History W) (calls : List (MadeCall W)) → InBounds b.table → Inv kit start (view b) l
       → Inv kit start (view (left_by kit b calls)) (history_of l calls (answers_of kit b calls))
   keep_all b l [] bounds inv = inv
   keep_all b l (call ∷ calls) bounds inv =
@@ -104,7 +104,7 @@ module _ {W : Type 0} (kit : Kit W) (start : List W) where
     lone = λ e. wrong e;
     heads =
         λ k me there.
-        subst (λ x. HeadOk kit.patience start 0 0 start [] k x blank) (sym (nth-replicate n new_seat me k there))
+        subst (λ x. HeadOk kit.patience start 0 0 start [] k x blank_page) (sym (nth-replicate n new_seat me k there))
         (record { attempts = refl; since = omega arith; mark = refl; going = λ e. wrong e; live = λ e. wrong e; hardware = λ e. wrong e; software = λ e. wrong e; aborted = λ e. wrong e });
     clear = λ j k me it there _ _ hardware _. wrong (subst (λ x. is_hardware x.head.state ≡ true) (nth-replicate n new_seat me j there) hardware);
     past = All-nil (Explained [] start);

@@ -7,8 +7,8 @@ use Rattle.rules.specs.declared.types.State.TheVariants.{Idle, Hardware, Softwar
 use Rattle.rules.specs.Kit.{Kit}
 use Rattle.rules.specs.Heads.{is_hardware, is_software, is_aborted, is_writing_back, is_idle}
 use Rattle.rules.specs.Bench.{is_odd}
-use Rattle.rules.specs.History.{History, Attempt, Ended, Page, pages_with, closes_of_others}
-use Rattle.rules.specs.Laws.{Explained, Bounded, most_attempts}
+use Rattle.rules.specs.History.{History, Attempt, EndedTransaction, Page, pages_with, closes_of_others}
+use Rattle.rules.specs.RunLaws.{Explained, Bounded, most_attempts}
 use Rattle.rules.proofs.Basics.{wrong}
 use Rattle.rules.proofs.Seats.{Seat, Rig}
 use Rattle.rules.proofs.Invariant.{HeadOk, Clear, Inv}
@@ -49,7 +49,7 @@ idle-plain s e = refl
 
 module _ {W : Type 0} (kit : Kit W) (start : List W) (m : Rig W) (l : History W) (inv : Inv kit start m l) (h : ℕ) (me : Seat W) (at : slice_get m.heads h ≡ Some me) where
   -- `quiet` where the head's page is given by an equation, and no other head is touched
-  pub quiet_at : (me' : Seat W) (f : Seat W → Seat W) (pages : ℕ → Page W) (page : Page W) (past : List (Attempt W)) (ended : List Ended)
+  pub quiet_at : (me' : Seat W) (f : Seat W → Seat W) (pages : ℕ → Page W) (page : Page W) (past : List (Attempt W)) (ended : List EndedTransaction)
       → ((o : Seat W) → Struck o (f o))
       → ((k : ℕ) → (k ≡ h → ⊥) → pages k ≡ l.pages k)
       → pages h ≡ page

@@ -7,7 +7,7 @@ use Rattle.rules.specs.Kit.{Kit, Lawful}
 use Rattle.rules.specs.Calls.{in_range, new_table, set_up}
 use Rattle.rules.specs.Runs.{answers_of, left_by}
 use Rattle.rules.specs.History.{nothing_yet, history_of}
-use Rattle.rules.specs.Laws.{LawsOfRuns}
+use Rattle.rules.specs.RunLaws.{LawsOfRuns}
 use Rattle.rules.proofs.Basics.{by-test}
 use Rattle.rules.proofs.Seats.{view}
 use Rattle.rules.proofs.Invariant.{Inv}

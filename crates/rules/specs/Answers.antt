@@ -31,7 +31,7 @@ call_of kit b who Open = with_answer granted.Begun (open_of b who)
 call_of kit b who (Read c) = with_answer granted.Word (read_of kit b who c)
 call_of kit b who (Write c w) = with_answer (λ _. granted.Done) (write_of kit b who c w)
 call_of kit b who Close = with_answer granted.Closed (close_of kit b who)
-call_of kit b who Push = with_answer granted.Left (push_of b who)
+call_of kit b who Push = with_answer granted.SlotsLeft (push_of b who)
 call_of kit b who Jolt = with_answer (λ _. granted.Done) (jolt_of b who)
 call_of kit b who Again = with_answer granted.Begun (again_of kit b who)
 call_of kit b who Drop = with_answer (λ _. granted.Done) (drop_of b who)
@@ -57,12 +57,12 @@ refusal_value e = None
 
 -- a granted call returns 0, or 1 if its writes are still to be pushed
 abbrev pub closing_number : Closing → ℕ
-closing_number (closing.Done n) = 0
+closing_number (closing.Complete n) = 0
 closing_number (closing.WritingBack n) = 1
 
 -- the attempts that a granted close tells
 abbrev pub attempts_told : Closing → ℕ
-attempts_told (closing.Done n) = n
+attempts_told (closing.Complete n) = n
 attempts_told (closing.WritingBack n) = n
 
 abbrev pub granted_number : {W : Type 0} → Granted W → ℕ
@@ -75,7 +75,7 @@ granted_value shown number (granted.Begun m) = Some (number (mode_number m))
 granted_value shown number (granted.Word w) = Some (shown w)
 granted_value shown number granted.Done = None
 granted_value shown number (granted.Closed c) = Some (number (attempts_told c))
-granted_value shown number (granted.Left n) = Some (number n)
+granted_value shown number (granted.SlotsLeft n) = Some (number n)
 
 abbrev pub answer_number : {W : Type 0} → Answer W → ℕ
 answer_number (Ok g) = granted_number g

@@ -19,9 +19,9 @@ pub record HeadBounds (h : Head) : Type 0 where
   pub written : (if is_writing_back h.state then h.written + 1 else 0) ≤ h.writes
 
 -- how many heads have a transaction
-abbrev pub busy_heads : List Head → ℕ
-busy_heads [] = 0
-busy_heads (h ∷ heads) = (if is_idle h.state then 0 else 1) + busy_heads heads
+abbrev pub active_heads : List Head → ℕ
+active_heads [] = 0
+active_heads (h ∷ heads) = (if is_idle h.state then 0 else 1) + active_heads heads
 
 -- each transaction under way and each commit counted has used up one that was opened
 pub record InBounds (t : Table) : Type 0 where
@@ -31,7 +31,7 @@ pub record InBounds (t : Table) : Type 0 where
   pub few_cells : t.cell_count ≤ 1024
   pub opened : t.opened ≤ 60_000
   pub numbered : All (λ (h : Head). h.transaction ≤ t.opened) t.heads
-  pub used : busy_heads t.heads + (t.commits + t.sequence / 2) ≤ t.opened
+  pub used : active_heads t.heads + (t.commits + t.sequence / 2) ≤ t.opened
 
 -- the lists keep their lengths
 abbrev pub SameLengths : {W : Type 0} → Bench W → Bench W → Type 0

@@ -75,8 +75,8 @@ module _ {W : Type 0} (b : Bench W) (k : ℕ) where
   aborts_in heads cause h = leaves (Err (refuse.Aborted cause)) (table_with b k heads (abort cause h))
 
   -- open: one transaction more, and its first attempt begins in hardware
-  abbrev pub granted_open : Outcome Mode W
-  granted_open =
+  abbrev pub admitted_open : Outcome Mode W
+  admitted_open =
       let n = b.table.opened + 1 in
       let h = begin mode.Hardware (present_snapshot b.table) (enter n (head_at b k)) in
       leaves (Ok mode.Hardware) (record (table_with b k b.table.heads h) { opened = n })
@@ -85,8 +85,8 @@ module _ {W : Type 0} (b : Bench W) (k : ℕ) where
   abbrev pub is_last : Bool
   is_last = nat_le (length (write_log b k)) ((head_at b k).written + 1)
 
-  abbrev pub granted_push : Outcome ℕ W
-  granted_push =
+  abbrev pub admitted_push : Outcome ℕ W
+  admitted_push =
       let n = (head_at b k).written + 1 in
       let h = record (head_at b k) { state = if is_last then Idle else WritingBack; written = n } in
       record {
@@ -98,12 +98,12 @@ module _ {W : Type 0} (b : Bench W) (k : ℕ) where
       }
 
   -- jolt: the head aborts by an interrupt
-  abbrev pub granted_jolt : Outcome (Unit {0}) W
-  granted_jolt = aborts_in b.table.heads Other (head_at b k)
+  abbrev pub admitted_jolt : Outcome (Unit {0}) W
+  admitted_jolt = aborts_in b.table.heads Other (head_at b k)
 
   -- drop: the transaction is given up
-  abbrev pub granted_drop : Outcome (Unit {0}) W
-  granted_drop = becomes (Ok tt) (record (empty_logs (head_at b k)) { state = Idle })
+  abbrev pub admitted_drop : Outcome (Unit {0}) W
+  admitted_drop = becomes (Ok tt) (record (empty_logs (head_at b k)) { state = Idle })
 
 module _ {W : Type 0} (kit : Kit W) (b : Bench W) (k : ℕ) where
   -- the head that calls
@@ -114,8 +114,8 @@ module _ {W : Type 0} (kit : Kit W) (b : Bench W) (k : ℕ) where
   abbrev pub again_mode : Mode
   again_mode = next_mode kit.next me.aborts me.state
 
-  abbrev pub granted_again : Outcome Mode W
-  granted_again = becomes b k (Ok again_mode) (begin again_mode (present_snapshot b.table) me)
+  abbrev pub admitted_again : Outcome Mode W
+  admitted_again = becomes b k (Ok again_mode) (begin again_mode (present_snapshot b.table) me)
 
   -- read, of a cell that holds w: the word is noted in the read log
   abbrev pub notes_word : List Head → Head → ℕ → W → Outcome W W
@@ -145,8 +145,8 @@ module _ {W : Type 0} (kit : Kit W) (b : Bench W) (k : ℕ) where
       then notes_word (after_loads kit b k (loaded ++ (c ∷ []))) (record me { snapshot = present_snapshot b.table }) c w
       else aborts_in b k (after_loads kit b k loaded) Changed me
 
-  abbrev pub granted_read : ℕ → Outcome W W
-  granted_read c =
+  abbrev pub admitted_read : ℕ → Outcome W W
+  admitted_read c =
       logged_or (word_for c (write_log b k)) (λ w. leaves b k (Ok w) b.table)
       (with_word (slice_get b.cells c) b (λ w. if is_hardware me.state then hardware_read c w else software_read c w))
 
@@ -164,8 +164,8 @@ module _ {W : Type 0} (kit : Kit W) (b : Bench W) (k : ℕ) where
       then puts_word (Ok tt) log (after_store kit b k c) h
       else puts_word (Err (refuse.Aborted Capacity)) log b.table.heads (abort Capacity h)
 
-  abbrev pub granted_write : ℕ → W → Outcome (Unit {0}) W
-  granted_write c w =
+  abbrev pub admitted_write : ℕ → W → Outcome (Unit {0}) W
+  admitted_write c w =
       let log = put c w (write_log b k) in
       let h = record me { stores = stores_after me.state me.stores; writes = length log } in
       if is_hardware me.state then hardware_write c log h else puts_word (Ok tt) log b.table.heads h
@@ -176,7 +176,7 @@ module _ {W : Type 0} (kit : Kit W) (b : Bench W) (k : ℕ) where
 
   abbrev pub hardware_close : Outcome Closing W
   hardware_close = record {
-    answer = Ok (closing.Done me.attempts);
+    answer = Ok (closing.Complete me.attempts);
     left = record b {
       table = record (table_with b k b.table.heads goes_idle) { commits = b.table.commits + 1 };
       cells = put_in (write_log b k) b.cells;
@@ -196,35 +196,35 @@ module _ {W : Type 0} (kit : Kit W) (b : Bench W) (k : ℕ) where
       then start_write_back
       else aborts_in b k (after_loads kit b k (cells_validated kit b k)) Changed me
 
-  abbrev pub granted_close : Outcome Closing W
-  granted_close =
+  abbrev pub admitted_close : Outcome Closing W
+  admitted_close =
       if is_hardware me.state
       then hardware_close
-      else (if is_empty (write_log b k) then becomes b k (Ok (closing.Done me.attempts)) goes_idle else software_close)
+      else (if is_empty (write_log b k) then becomes b k (Ok (closing.Complete me.attempts)) goes_idle else software_close)
 
 -- the eight calls, each by a caller; these ask neither board nor policy, and test no word
 module _ {W : Type 0} (b : Bench W) (who : Caller) where
   abbrev pub open_of : Outcome Mode W
-  open_of = unless (refusal b who Open) b (granted_open b who.head)
+  open_of = unless (refusal b who Open) b (admitted_open b who.head)
 
   abbrev pub push_of : Outcome ℕ W
-  push_of = unless (refusal b who Push) b (granted_push b who.head)
+  push_of = unless (refusal b who Push) b (admitted_push b who.head)
 
   abbrev pub jolt_of : Outcome (Unit {0}) W
-  jolt_of = unless (refusal b who Jolt) b (granted_jolt b who.head)
+  jolt_of = unless (refusal b who Jolt) b (admitted_jolt b who.head)
 
   abbrev pub drop_of : Outcome (Unit {0}) W
-  drop_of = unless (refusal b who Drop) b (granted_drop b who.head)
+  drop_of = unless (refusal b who Drop) b (admitted_drop b who.head)
 
 module _ {W : Type 0} (kit : Kit W) (b : Bench W) (who : Caller) where
   abbrev pub read_of : ℕ → Outcome W W
-  read_of c = unless (refusal b who (Read c)) b (granted_read kit b who.head c)
+  read_of c = unless (refusal b who (Read c)) b (admitted_read kit b who.head c)
 
   abbrev pub write_of : ℕ → W → Outcome (Unit {0}) W
-  write_of c w = unless (refusal b who (Write c w)) b (granted_write kit b who.head c w)
+  write_of c w = unless (refusal b who (Write c w)) b (admitted_write kit b who.head c w)
 
   abbrev pub close_of : Outcome Closing W
-  close_of = unless (refusal b who Close) b (granted_close kit b who.head)
+  close_of = unless (refusal b who Close) b (admitted_close kit b who.head)
 
   abbrev pub again_of : Outcome Mode W
-  again_of = unless (refusal b who Again) b (granted_again kit b who.head)
+  again_of = unless (refusal b who Again) b (admitted_again kit b who.head)

@@ -5,13 +5,13 @@ use Rattle.parts.specs.declared.calls.Call.TheVariants.{Open, Read, Write, Close
 use Rattle.rules.specs.declared.types.Closing.{Closing}
 use Rattle.rules.specs.declared.types.Closing.TheVariants as closing
 use Rattle.rules.specs.declared.types.Granted.TheVariants as granted
-use Rattle.rules.specs.declared.types.Made.{Made}
+use Rattle.rules.specs.declared.types.MadeCall.{MadeCall}
 use Rattle.rules.specs.declared.types.Slot.{Slot}
 use Rattle.rules.specs.Logs.{is_empty, slot, names, word_for, put_in}
 use Rattle.rules.specs.Answers.{Answer, attempts_told}
 
 -- a granted close: whose it was, and the granted writes of the transaction's last attempt, in their order
-pub record Commit (W : Type 0) : Type 0 where
+pub record GrantedClose (W : Type 0) : Type 0 where
   pub head : ℕ
   pub writes : List (Slot W)
 
@@ -31,7 +31,7 @@ pub record Attempt (W : Type 0) : Type 0 where
 
 -- a transaction that has ended: how many closes were granted before its open and before its end, its attempts, and
 -- the number that its granted close told
-pub record Ended : Type 0 where
+pub record EndedTransaction : Type 0 where
   pub head : ℕ
   pub since : ℕ
   pub until : ℕ
@@ -48,17 +48,17 @@ pub record Page (W : Type 0) : Type 0 where
 
 -- the granted closes, a page for each head, the earlier attempts, and the transactions that have ended
 pub record History (W : Type 0) : Type 0 where
-  pub closes : List (Commit W)
+  pub closes : List (GrantedClose W)
   pub pages : ℕ → Page W
   pub past : List (Attempt W)
-  pub ended : List Ended
+  pub ended : List EndedTransaction
 
 -- before any call
-abbrev pub blank : {W : Type 0} → Page W
-blank = record { attempt = record { began = 0; reads = []; own_reads = []; writes = []; closed = None }; since = 0; attempts = 0; writing_back = false }
+abbrev pub blank_page : {W : Type 0} → Page W
+blank_page = record { attempt = record { began = 0; reads = []; own_reads = []; writes = []; closed = None }; since = 0; attempts = 0; writing_back = false }
 
 abbrev pub nothing_yet : {W : Type 0} → History W
-nothing_yet = record { closes = []; pages = λ _. blank; past = []; ended = [] }
+nothing_yet = record { closes = []; pages = λ _. blank_page; past = []; ended = [] }
 
 -- the word that was put last into the cell by these writes
 abbrev pub last_written : {W : Type 0} → ℕ → List (Slot W) → Option W
@@ -70,7 +70,7 @@ pages_with pages k page j = if j == k then page else pages j
 
 -- whether a granted close left writes to be pushed
 abbrev pub starts_write_back : Closing → Bool
-starts_write_back (closing.Done n) = false
+starts_write_back (closing.Complete n) = false
 starts_write_back (closing.WritingBack n) = true
 
 module _ {W : Type 0} (l : History W) (k : ℕ) where
@@ -129,26 +129,26 @@ module _ {W : Type 0} (l : History W) (k : ℕ) where
   history_after (Read c) (Ok (granted.Word w)) = after_read c w
   history_after (Write c w) (Ok g) = after_write c w
   history_after Close (Ok (granted.Closed how)) = after_close how
-  history_after Push (Ok (granted.Left n)) = after_push n
+  history_after Push (Ok (granted.SlotsLeft n)) = after_push n
   history_after Again (Ok g) = with_attempt page.since (page.attempts + 1)
   history_after Drop (Ok g) = with_end None l
   history_after call answer = l
 
 -- the history of calls and their answers
-abbrev pub history_of : {W : Type 0} → History W → List (Made W) → List (Answer W) → History W
+abbrev pub history_of : {W : Type 0} → History W → List (MadeCall W) → List (Answer W) → History W
 history_of l [] answers = l
 history_of l (call ∷ calls) [] = l
 history_of l (call ∷ calls) (a ∷ answers) = history_of (history_after l call.caller.head call.call a) calls answers
 
 -- the cells after these closes: each puts its writes in
-abbrev pub cells_after : {W : Type 0} → List (Commit W) → List W → List W
+abbrev pub cells_after : {W : Type 0} → List (GrantedClose W) → List W → List W
 cells_after [] cells = cells
 cells_after (c ∷ closes) cells = cells_after closes (put_in c.writes cells)
 
 -- a close with writes, of another head than k
-abbrev pub is_other : {W : Type 0} → ℕ → Commit W → Bool
+abbrev pub is_other : {W : Type 0} → ℕ → GrantedClose W → Bool
 is_other k c = not (k == c.head) && not (is_empty c.writes)
 
 -- how many of them were granted after the first `since` closes and among the first `until`
-abbrev pub closes_of_others : {W : Type 0} → List (Commit W) → ℕ → ℕ → ℕ → ℕ
+abbrev pub closes_of_others : {W : Type 0} → List (GrantedClose W) → ℕ → ℕ → ℕ → ℕ
 closes_of_others closes k since until = length (filter (is_other k) (drop since (take until closes)))

@@ -7,7 +7,7 @@ pub mod Calls
 pub mod Answers
 pub mod Runs
 pub mod History
-pub mod Laws
-pub mod Example
+pub mod RunLaws
+pub mod Examples
 pub mod Bounds
-pub mod Glance
+pub mod CallLaws

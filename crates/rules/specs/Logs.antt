@@ -29,8 +29,8 @@ abbrev pub note : {W : Type 0} → ℕ → W → List (Slot W) → List (Slot W)
 note c w log = if names c log then log else log ++ (slot c w ∷ [])
 
 -- a new slot is needed for the cell, and the log has 32
-abbrev pub is_full : {W : Type 0} → ℕ → List (Slot W) → Bool
-is_full c log = not (names c log) && nat_le 32 (length log)
+abbrev pub lacks_room_for : {W : Type 0} → ℕ → List (Slot W) → Bool
+lacks_room_for c log = not (names c log) && nat_le 32 (length log)
 
 -- whether a cell of the log is on the line
 abbrev pub touches : {W : Type 0} → (ℕ → ℕ) → ℕ → List (Slot W) → Bool

@@ -8,7 +8,7 @@ use Rattle.rules.specs.declared.types.Refusal.TheVariants as refuse
 use Rattle.rules.specs.declared.types.Head.{Head}
 use Rattle.rules.specs.declared.types.State.{State}
 use Rattle.rules.specs.declared.types.State.TheVariants.{Aborted}
-use Rattle.rules.specs.Logs.{names, is_empty, is_full}
+use Rattle.rules.specs.Logs.{names, is_empty, lacks_room_for}
 use Rattle.rules.specs.Heads.{is_idle, is_hardware, is_software, is_aborted, is_writing_back}
 use Rattle.rules.specs.Bench.{Bench, head_at, read_log, write_log, is_odd}
 
@@ -20,8 +20,8 @@ abbrev pub by_handle : ℕ → ℕ → Caller
 by_handle k n = record { head = k; transaction = Some n }
 
 -- a list must have a word for each cell, or 32 slots for each head
-abbrev pub lists_fit : {W : Type 0} → Bench W → Bool
-lists_fit b =
+abbrev pub lengths_match : {W : Type 0} → Bench W → Bool
+lengths_match b =
     (length b.cells == b.table.cell_count)
     && (length b.reads == 32 * b.table.head_count && length b.writes == 32 * b.table.head_count)
 
@@ -65,8 +65,8 @@ module _ {W : Type 0} (b : Bench W) (k : ℕ) where
 
   -- calls that need a slot where there is none left
   abbrev pub lacks_slot : Call ℕ W → Bool
-  lacks_slot (Read c) = not (names c (write_log b k)) && is_full c (read_log b k)
-  lacks_slot (Write c w) = is_full c (write_log b k)
+  lacks_slot (Read c) = not (names c (write_log b k)) && lacks_room_for c (read_log b k)
+  lacks_slot (Write c w) = lacks_room_for c (write_log b k)
   lacks_slot call = false
 
   abbrev pub lacks_transaction : Call ℕ W → Bool
@@ -91,7 +91,7 @@ first_found (Some e ∷ rows) = Some e
 module _ {W : Type 0} (b : Bench W) (who : Caller) (call : Call ℕ W) where
   abbrev pub refusals : List (Option Refusal)
   refusals =
-      when (not (lists_fit b)) refuse.Lists
+      when (not (lengths_match b)) refuse.Lists
       ∷ when (nat_le b.table.head_count who.head) refuse.NoHead
       ∷ when (is_stale who.transaction (head_at b who.head)) refuse.StaleHandle
       ∷ when (is_beyond b.table.cell_count call) refuse.NoCell

@@ -7,5 +7,5 @@ mod types;
 
 pub use theorems::{bounds_stand, call_laws_stand, examples_stand, laws_stand};
 pub use types::{
-    Caller, Closing, Granted, Head, Lent, Made, Refusal, Slot, Snapshot, State, Table,
+    Caller, Closing, Granted, Head, LentLists, MadeCall, Refusal, Slot, Snapshot, State, Table,
 };

@@ -1,10 +1,10 @@
 // What is proved of the rule book, for every kind of word, every board and every policy: each theorem is the contract
 // of a function that does nothing. Board and policy stay two parameters: the rig that holds both has no calls yet.
 ghost use Rattle.rules.specs.Bounds.{BoundsAtSetUp, BoundsKept};
-ghost use Rattle.rules.specs.Example.{RepricingSheet, SoftwareSheet, ValidationSheet, LinesSheet, StoresSheet, LockSheet, RefusalsSheet};
-ghost use Rattle.rules.specs.Glance.{CallLaws};
+ghost use Rattle.rules.specs.Examples.{RepricingSheet, SoftwareSheet, ValidationSheet, LinesSheet, StoresSheet, LockSheet, RefusalsSheet};
+ghost use Rattle.rules.specs.CallLaws.{CallLaws};
 ghost use Rattle.rules.specs.Kit.{kit_of};
-ghost use Rattle.rules.specs.Laws.{LawsOfRuns};
+ghost use Rattle.rules.specs.RunLaws.{LawsOfRuns};
 
 use parts::{Board, Policy, Word};
 

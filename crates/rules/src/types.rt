@@ -79,7 +79,7 @@ pub struct Caller {
 // Not a `Result`: neither case is a failure.
 #[derive(Clone, Copy)]
 pub enum Closing {
-    Done(u32),
+    Complete(u32),
     WritingBack(u32),
 }
 
@@ -94,7 +94,7 @@ pub enum Granted<W> {
     Done,
     Closed(Closing),
     // the slots that are left to push
-    Left(u8),
+    SlotsLeft(u8),
 }
 
 // Why a call is not granted.
@@ -122,15 +122,15 @@ pub enum Refusal {
 
 // The lists that a call gets: as the last call with right lengths left them, or one of them of wrong length.
 #[derive(Clone, Copy)]
-pub enum Lent {
+pub enum LentLists {
     Right,
     Wrong,
 }
 
 // A call as it is made: who makes it, with which lists.
 #[derive(Clone, Copy)]
-pub struct Made<W> {
-    pub lent: Lent,
+pub struct MadeCall<W> {
+    pub lent: LentLists,
     pub caller: Caller,
     pub call: Call<u32, W>,
 }

@@ -1,4 +1,4 @@
-use Rattle.rules.proofs.AtAGlance.{call-laws}
+use Rattle.rules.proofs.LawsOfCalls.{call-laws}
 use Rattle.rules.proofs.theorems.call_laws_stand.Goals as goal
 
 pub returns : goal.returns

@@ -1,14 +1,14 @@
 -- The three laws of a run. They speak of calls, answers and cells alone, so every rig that answers alike has them.
 use Rattle.std.specs.Prelude.{◌≡◌, ℕ, ◌+◌, ◌≤◌, false, List, length, take, Some, Ok, All}
 use Rattle.std.specs.List.{slice_get}
-use Rattle.rules.specs.declared.types.Made.{Made}
+use Rattle.rules.specs.declared.types.MadeCall.{MadeCall}
 use Rattle.rules.specs.declared.types.Slot.{Slot}
 use Rattle.rules.specs.Kit.{Kit}
 use Rattle.rules.specs.Logs.{is_empty}
 use Rattle.rules.specs.Bench.{Bench}
 use Rattle.rules.specs.Calls.{set_up}
 use Rattle.rules.specs.Answers.{Answer}
-use Rattle.rules.specs.History.{History, Commit, OwnRead, Attempt, Ended, nothing_yet, history_of, cells_after, closes_of_others}
+use Rattle.rules.specs.History.{History, GrantedClose, OwnRead, Attempt, EndedTransaction, nothing_yet, history_of, cells_after, closes_of_others}
 use Rattle.rules.specs.Runs.{answers_of, left_by}
 
 -- each word is its cell's word
@@ -19,7 +19,7 @@ Agrees cells log = All (λ s. slice_get cells s.cell ≡ Some s.word) log
 abbrev pub most_attempts : ℕ → ℕ → ℕ
 most_attempts patience closes = patience + 1 + closes
 
-module _ {W : Type 0} (closes : List (Commit W)) where
+module _ {W : Type 0} (closes : List (GrantedClose W)) where
   -- one prefix of the closes, with every close granted before the attempt began in it, explains the attempt: after it
   -- every word that the attempt read from the cells is its cell's word; and if the attempt closed with writes, the
   -- prefix is exactly the closes before its own. Every other word that it read is the one that it wrote there last
@@ -32,7 +32,7 @@ module _ {W : Type 0} (closes : List (Commit W)) where
     pub own_reads : All (λ (r : OwnRead W). r.written ≡ Some r.word) a.own_reads
 
   -- a transaction that has ended made no more, and its granted close told how many
-  abbrev pub Bounded : ℕ → Ended → Type 0
+  abbrev pub Bounded : ℕ → EndedTransaction → Type 0
   Bounded patience e =
       (e.attempts ≤ most_attempts patience (closes_of_others closes e.head e.since e.until)) × ((n : ℕ) → e.told ≡ Some n → n ≡ e.attempts)
 
@@ -47,11 +47,11 @@ pub record ThreeLaws {W : Type 0} (patience : ℕ) (cells now : List W) (l : His
   pub bounded_now : (k : ℕ) → (l.pages k).attempts ≤ most_attempts patience (closes_of_others l.closes k (l.pages k).since (length l.closes))
 
 -- the laws hold of these calls and answers, from these cells to those
-abbrev pub LawsHold : {W : Type 0} → ℕ → List W → List W → List (Made W) → List (Answer W) → Type 0
+abbrev pub LawsHold : {W : Type 0} → ℕ → List W → List W → List (MadeCall W) → List (Answer W) → Type 0
 LawsHold patience cells now calls answers = ThreeLaws patience cells now (history_of nothing_yet calls answers)
 
 -- the three laws, of every list of calls on every rig that is set up, whatever lists it is lent
 abbrev pub LawsOfRuns : {W : Type 0} → Kit W → Type 0
 LawsOfRuns {W} kit =
-    (heads cells : ℕ) (b : Bench W) (calls : List (Made W)) → set_up heads cells ≡ Ok b.table
+    (heads cells : ℕ) (b : Bench W) (calls : List (MadeCall W)) → set_up heads cells ≡ Ok b.table
     → LawsHold kit.patience b.cells (left_by kit b calls).cells calls (answers_of kit b calls)

@@ -5,8 +5,8 @@ use Rattle.parts.specs.Boards.{stores_line, stores_fit, lines_line, lines_fit, w
 use Rattle.parts.specs.Policies.{plain_mode}
 use Rattle.parts.specs.declared.calls.Call.{Call}
 use Rattle.parts.specs.declared.calls.Call.TheVariants.{Open, Read, Write, Close, Push, Jolt, Again, Drop}
-use Rattle.rules.specs.declared.types.Lent.TheVariants as lent
-use Rattle.rules.specs.declared.types.Made.{Made}
+use Rattle.rules.specs.declared.types.LentLists.TheVariants as lent
+use Rattle.rules.specs.declared.types.MadeCall.{MadeCall}
 use Rattle.rules.specs.Kit.{Kit}
 use Rattle.rules.specs.Logs.{slot}
 use Rattle.rules.specs.Bench.{Bench}
@@ -40,7 +40,7 @@ value_shown (Err e) = as_amount (refusal_value e)
 
 -- a call, and the number and the value that it returns
 pub record Row : Type 0 where
-  pub made : Made ℤ
+  pub made : MadeCall ℤ
   pub number : ℕ
   pub value : Option ℕ
 

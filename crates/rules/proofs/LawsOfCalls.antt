@@ -16,13 +16,13 @@ use Rattle.rules.specs.declared.types.Refusal.TheVariants as refuse
 use Rattle.rules.specs.Kit.{Kit}
 use Rattle.rules.specs.Heads.{new_head, is_hardware, is_aborted, abort}
 use Rattle.rules.specs.Bench.{Bench, is_odd, head_at, after_loads, cells_validated, map_at, lock_out, holds, holds_same, cells_loaded, write_log}
-use Rattle.rules.specs.Refusals.{by_handle, by_number, lists_fit, is_beyond, takes, why_not, waits, lacks_slot, lacks_transaction, lacks_attempt, when, first_found, refusal, refusals}
+use Rattle.rules.specs.Refusals.{by_handle, by_number, lengths_match, is_beyond, takes, why_not, waits, lacks_slot, lacks_transaction, lacks_attempt, when, first_found, refusal, refusals}
 use Rattle.rules.specs.Calls.{Outcome}
 use Rattle.rules.specs.Answers.{Answer, with_answer, call_of}
-use Rattle.rules.specs.Glance.{RefusalsChangeNothing, AbortsTellTheirCause, WrongListsRefused, may_write, CellsChangeByCommits, OthersOnlyAbort, HandlesCallAsHeads, StaleHandlesRefused, OpenTakesNextNumber, NumbersStay, StrayCells, CallLaws}
+use Rattle.rules.specs.CallLaws.{RefusalsChangeNothing, AbortsTellTheirCause, WrongListsRefused, may_write, CellsChangeByCommits, OthersOnlyAbort, HandlesCallAsHeads, StaleHandlesRefused, OpenTakesNextNumber, NumbersStay, StrayCells, CallLaws}
 use Rattle.rules.proofs.Basics.{wrong}
 use Rattle.rules.proofs.Sweeps.{Hit, Swept, swept_none, swept-lock, swept_at, number-set}
-use Rattle.rules.proofs.Cases.{granted_of, by_call, by_read, by-write, by-close}
+use Rattle.rules.proofs.Cases.{admitted_of, by_call, by_read, by-write, by-close}
 use Rattle.std.proofs.lemmas.List.Elements.{All-nil, All-cons, length_all_zip}
 use Rattle.rules.proofs.Admitted.{admitted}
 use Rattle.rules.specs.declared.types.Slot.{Slot}
@@ -44,7 +44,7 @@ module _ {W : Type 0} (kit : Kit W) (b : Bench W) where
   stays-abort : (cause : Cause) (left : Bench W) → Stays b (Err (refuse.Aborted cause), left)
   stays-abort cause left e q not-abort = absurd (not-abort cause cc)
 
-  stays : (k : ℕ) (call : Call ℕ W) → Stays b (granted_of kit b k call)
+  stays : (k : ℕ) (call : Call ℕ W) → Stays b (admitted_of kit b k call)
   stays k Open = stays-granted _ _
   stays k (Read c) =
       by_read kit b k c (λ (o : Outcome W W). Stays b (with_answer granted.Word o)) (λ w. stays-granted _ _) (λ e q not-abort. refl)
@@ -75,7 +75,7 @@ aborted-goes-on call (Aborted cause) a e = taken_aborted call cause e
 aborted-goes-on call s a e = wrong a
 
 -- are granted
-goes-on-granted : {W X : Type 0} (kit : Kit W) (b : Bench W) (k : ℕ) (call : Call ℕ W) (e : Refusal) → goes_on call ≡ true → (granted_of kit b k call).0 ≡ Err e → X
+goes-on-granted : {W X : Type 0} (kit : Kit W) (b : Bench W) (k : ℕ) (call : Call ℕ W) (e : Refusal) → goes_on call ≡ true → (admitted_of kit b k call).0 ≡ Err e → X
 goes-on-granted kit b k Again e g q = cc
 goes-on-granted kit b k Drop e g q = cc
 goes-on-granted kit b k call e g q = wrong g
@@ -146,7 +146,7 @@ module _ {W : Type 0} (kit : Kit W) (b : Bench W) (k : ℕ) (cause : Cause) (lt 
       let same = length_all_zip Hit b.table.heads ys p in
       ap (λ (h : Head). h.state) (get_or-set_same ys k (abort x h) new_head (omega arith)) ∙ cc
 
-  granted-told : (call : Call ℕ W) → Told k cause (granted_of kit b k call)
+  granted-told : (call : Call ℕ W) → Told k cause (admitted_of kit b k call)
   granted-told (Read c) =
       by_read kit b k c (λ (o : Outcome W W). Told k cause (with_answer granted.Word o)) (λ w q. cc) (λ q. cc) (λ _ ys p s w q. cc)
       (λ ys p x q. told_in ys p x (head_at b k) cc)
@@ -172,13 +172,13 @@ when-first false e rows q = wrong q
 
 pub wrong-lists-refused : {W : Type 0} (kit : Kit W) → WrongListsRefused kit
 wrong-lists-refused {W} kit b who call f =
-    let is : refusal b who call ≡ Some refuse.Lists = when-first (not (lists_fit b)) refuse.Lists _ (not_from_false (lists_fit b) f) in
+    let is : refusal b who call ≡ Some refuse.Lists = when-first (not (lengths_match b)) refuse.Lists _ (not_from_false (lengths_match b) f) in
     by_call kit b who call (λ (r : Answer W × Bench W). r ≡ (Err refuse.Lists, b))
     (λ e q. cc)
     (λ q. cc)
 
 module _ {W : Type 0} (kit : Kit W) (b : Bench W) (k : ℕ) where
-  cells_stay : (call : Call ℕ W) → (is_ok (granted_of kit b k call).0 && may_write b k call) ≡ false → (granted_of kit b k call).1.cells ≡ b.cells
+  cells_stay : (call : Call ℕ W) → (is_ok (admitted_of kit b k call).0 && may_write b k call) ≡ false → (admitted_of kit b k call).1.cells ≡ b.cells
   cells_stay Open e = refl
   cells_stay (Read c) e = by_read kit b k c (λ (o : Outcome W W). o.left.cells ≡ b.cells) (λ w. refl) refl (λ _ ys p s w. refl) (λ ys p cause. refl)
   cells_stay (Write c w) e = by-write kit b k c w (λ (o : Outcome (Unit {0}) W). o.left.cells ≡ b.cells) (λ ys p. refl) refl
@@ -198,7 +198,7 @@ module _ {W : Type 0} (kit : Kit W) (b : Bench W) (k : ℕ) where
   other-alone : (h : Head) (j : ℕ) → (j ≡ k → ⊥) → Hit (head_at b j) (get_or (set b.table.heads k h) j new_head)
   other-alone = other-set b.table.heads (swept_none b.table.heads)
 
-  others-hit : (call : Call ℕ W) (j : ℕ) → (j ≡ k → ⊥) → Hit (head_at b j) (head_at (granted_of kit b k call).1 j)
+  others-hit : (call : Call ℕ W) (j : ℕ) → (j ≡ k → ⊥) → Hit (head_at b j) (head_at (admitted_of kit b k call).1 j)
   others-hit Open j ne = other-alone _ j ne
   others-hit (Read c) j ne =
       by_read kit b k c (λ (o : Outcome W W). Hit (head_at b j) (head_at o.left j)) (λ w. inl refl) (inl refl)
@@ -228,9 +228,9 @@ abbrev settled_by : {W : Type 0} → Option Refusal → Bench W → Answer W × 
 settled_by None b r = r
 settled_by (Some e) b r = (Err e, b)
 
-call-is : {W : Type 0} (kit : Kit W) (b : Bench W) (who : Caller) (call : Call ℕ W) → call_of kit b who call ≡ settled_by (refusal b who call) b (granted_of kit b who.head call)
+call-is : {W : Type 0} (kit : Kit W) (b : Bench W) (who : Caller) (call : Call ℕ W) → call_of kit b who call ≡ settled_by (refusal b who call) b (admitted_of kit b who.head call)
 call-is {W} kit b who call =
-    let g = granted_of kit b who.head call in
+    let g = admitted_of kit b who.head call in
     by_call kit b who call (λ (r : Answer W × Bench W). r ≡ settled_by (refusal b who call) b g)
     (λ e q. ap (λ o. settled_by o b g) (sym q)) (λ q. ap (λ o. settled_by o b g) (sym q))
 
@@ -246,8 +246,8 @@ refusal_by b k call unfit missing stale =
 pub handles-call-as-heads : {W : Type 0} (kit : Kit W) → HandlesCallAsHeads kit
 handles-call-as-heads kit b k n call e =
     let same : refusal b (by_handle k n) call ≡ refusal b (by_number k) call =
-    ap (λ t. refusal_by b k call (not (lists_fit b)) (leb b.table.head_count k) (not t)) (eq-eqb n (head_at b k).transaction e) in
-    call-is kit b (by_handle k n) call ∙ ap (λ o. settled_by o b (granted_of kit b k call)) same ∙ sym (call-is kit b (by_number k) call)
+    ap (λ t. refusal_by b k call (not (lengths_match b)) (leb b.table.head_count k) (not t)) (eq-eqb n (head_at b k).transaction e) in
+    call-is kit b (by_handle k n) call ∙ ap (λ o. settled_by o b (admitted_of kit b k call)) same ∙ sym (call-is kit b (by_number k) call)
 
 pub stale-handles-refused : {W : Type 0} (kit : Kit W) → StaleHandlesRefused kit
 stale-handles-refused kit b k n call fit lt ne =
@@ -255,7 +255,7 @@ stale-handles-refused kit b k n call fit lt ne =
     let is : refusal b (by_handle k n) call ≡ Some refuse.StaleHandle =
     ap (λ t. refusal_by b k call (not t) (leb b.table.head_count k) stale) fit ∙ ap (λ t. refusal_by b k call false t stale) (lt-leb b.table.head_count k lt)
     ∙ ap (λ t. refusal_by b k call false false (not t)) (ne_eqb n (head_at b k).transaction ne) in
-    call-is kit b (by_handle k n) call ∙ ap (λ o. settled_by o b (granted_of kit b k call)) is
+    call-is kit b (by_handle k n) call ∙ ap (λ o. settled_by o b (admitted_of kit b k call)) is
 
 pub open-takes-next-number : {W : Type 0} (kit : Kit W) → OpenTakesNextNumber kit
 open-takes-next-number {W} kit b who g bounds e =
@@ -275,7 +275,7 @@ module _ {W : Type 0} (kit : Kit W) (b : Bench W) (k : ℕ) where
       → (j : ℕ) → (get_or (set ys k h) j new_head).transaction ≡ (head_at b j).transaction
   number-kept ys p h e j = number-set b.table.heads ys k j h p e
 
-  numbers-kept : (call : Call ℕ W) → (call ≡ Open → ⊥) → SameNumbers b (granted_of kit b k call).1
+  numbers-kept : (call : Call ℕ W) → (call ≡ Open → ⊥) → SameNumbers b (admitted_of kit b k call).1
   numbers-kept Open ne = absurd (ne refl)
   numbers-kept (Read c) ne =
       by_read kit b k c (λ (o : Outcome W W). SameNumbers b o.left) (λ w. (λ j. refl, refl)) (λ j. refl, refl)

@@ -14,7 +14,7 @@ use Rattle.rules.specs.Heads.{is_hardware, is_aborted, abort}
 use Rattle.rules.specs.Logs.{put_in}
 use Rattle.rules.specs.Bench.{Bench, head_at, holds, cells_loaded}
 use Rattle.rules.specs.Bounds.{InBounds}
-use Rattle.rules.specs.Refusals.{by_handle, by_number, lists_fit}
+use Rattle.rules.specs.Refusals.{by_handle, by_number, lengths_match}
 use Rattle.rules.specs.Answers.{Answer, call_of}
 
 -- only a hardware close and a push put words into the cells
@@ -45,7 +45,7 @@ module _ {W : Type 0} (kit : Kit W) where
 
   -- a call with a list of wrong length is refused with 2, whatever else is wrong with it
   abbrev pub WrongListsRefused : Type 0
-  WrongListsRefused = (b : Bench W) (who : Caller) (call : Call ℕ W) → lists_fit b ≡ false → call_of kit b who call ≡ (Err refuse.Lists, b)
+  WrongListsRefused = (b : Bench W) (who : Caller) (call : Call ℕ W) → lengths_match b ≡ false → call_of kit b who call ≡ (Err refuse.Lists, b)
 
   -- the cells change only in a granted hardware close or push
   abbrev pub CellsChangeByCommits : Type 0
@@ -68,7 +68,7 @@ module _ {W : Type 0} (kit : Kit W) where
   -- else it is refused with 12, where there is such a head
   abbrev pub StaleHandlesRefused : Type 0
   StaleHandlesRefused =
-      (b : Bench W) (k n : ℕ) (call : Call ℕ W) → lists_fit b ≡ true → k < b.table.head_count → n ≢ (head_at b k).transaction
+      (b : Bench W) (k n : ℕ) (call : Call ℕ W) → lengths_match b ≡ true → k < b.table.head_count → n ≢ (head_at b k).transaction
       → call_of kit b (by_handle k n) call ≡ (Err refuse.StaleHandle, b)
 
   -- a granted open gives its head a new number, the next after all that were given
