@@ -58,12 +58,12 @@ by_call kit b who Drop P = by-refusal (λ _. granted.Done) (refusal b who Drop) 
 
 module _ {W : Type 0} (kit : Kit W) (b : Bench W) (k : ℕ) where
   -- a read is with_answer by the write log or note, or the attempt aborts; only where the cell is not there it is refuses
-  pub by_read : (c : ℕ) (P : Outcome W W → Type 0) → ((w : W) → P (leaves b k (Ok w) b.table)) → P (refuses b refuse.NoCell)
+  pub by_read : (c : ℕ) (P : Outcome W W → Type 0) → ((w : W) → P (leaves b (Ok w) b.table)) → P (refuses b refuse.NoCell)
       → (word_for c (write_log b k) ≡ None → (ys : List Head) → Swept b.table.heads ys → (s : Snapshot) (w : W) → P (notes_word kit b k ys (resnap s (head_at b k)) c w))
       → ((ys : List Head) → Swept b.table.heads ys → (cause : Cause) → P (aborts_in b k ys cause (head_at b k)))
       → P (admitted_read kit b k c)
   by_read c P logged none notes aborts =
-      by-option (word_for c (write_log b k)) (λ (o : Option W). P (logged_or o (λ w. leaves b k (Ok w) b.table) (with_word (slice_get b.cells c) b loading)))
+      by-option (word_for c (write_log b k)) (λ (o : Option W). P (logged_or o (λ w. leaves b (Ok w) b.table) (with_word (slice_get b.cells c) b loading)))
       (λ e. by-option (slice_get b.cells c) (λ (o : Option W). P (with_word o b loading)) (λ _. none) (λ w _. loaded e w))
       (λ w _. logged w)
     where

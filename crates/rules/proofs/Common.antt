@@ -18,7 +18,8 @@ use Rattle.parts.specs.declared.types.Cause.TheVariants.{Conflict, Changed}
 use Rattle.rules.specs.declared.types.State.{State}
 use Rattle.rules.specs.declared.types.State.TheVariants.{Hardware, Aborted}
 use Rattle.rules.specs.RunLaws.{Agrees}
-use Rattle.rules.specs.Kit.{Kit, Lawful}
+use Rattle.rules.specs.Kit.{Kit}
+use Rattle.rules.proofs.Lawful.{Lawful}
 use Rattle.rules.specs.Heads.{is_hardware, is_software, is_aborted}
 use Rattle.rules.specs.Bench.{Bench, hit_by_loads, is_odd, is_current, holds, is_valid, cells_validated}
 use Rattle.rules.proofs.Seats.{Seat, Rig, view, seat_of, abort_seat, meets, loaded}

@@ -6,7 +6,7 @@ use Rattle.parts.specs.declared.types.Mode.TheVariants as mode
 use Rattle.rules.specs.declared.types.Head.{Head}
 use Rattle.rules.specs.declared.types.Snapshot.{Snapshot}
 use Rattle.rules.specs.declared.types.State.TheVariants.{Idle, WritingBack}
-use Rattle.rules.specs.Heads.{is_hardware, is_writing_back, new_head, abort, enter, begin}
+use Rattle.rules.specs.Heads.{is_hardware, is_writing_back, new_head, abort, with_transaction, begin}
 use Rattle.rules.specs.Bounds.{HeadBounds}
 use Rattle.rules.proofs.Records.{become, wrote, resnap, read_more, wrote_more, cancel}
 use Rattle.rules.proofs.Basics.{by-test}
@@ -14,7 +14,7 @@ use Rattle.rules.proofs.Basics.{by-test}
 pub new-bounds : HeadBounds new_head
 new-bounds = record { reads = omega arith; writes = omega arith; aborts = omega arith; attempts = omega arith; written = omega arith }
 
-pub open-bounds : (n : ℕ) (s : Snapshot) (h : Head) → HeadBounds (begin mode.Hardware s (enter n h))
+pub open-bounds : (n : ℕ) (s : Snapshot) (h : Head) → HeadBounds (begin mode.Hardware s (with_transaction n h))
 open-bounds n s h = record { reads = omega arith; writes = omega arith; aborts = omega arith; attempts = omega arith; written = omega arith }
 
 module _ (h : Head) (p : HeadBounds h) where

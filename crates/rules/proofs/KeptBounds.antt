@@ -1,5 +1,5 @@
 -- Every call keeps the table in bounds and the lists as long as they are.
-use Rattle.std.proofs.Common.{◌≡◌, ℕ, ◌+◌, ◌*◌, ◌/◌, ◌%◌, ◌<◌, ◌≤◌, true, false, cond, not, ◌&&◌, ◌||◌, leb, List, [], ◌∷◌, length, take, drop, set, Ok, Err, sym, refl, ap, ◌∙◌, arith}
+use Rattle.std.proofs.Common.{◌≡◌, ℕ, ◌+◌, ◌*◌, ◌/◌, ◌%◌, ◌<◌, ◌≤◌, true, false, cond, not, ◌&&◌, ◌||◌, leb, List, [], ◌∷◌, length, take, drop, set, Ok, Err, sym, refl, ap, ◌∙◌, arith, map}
 use Rattle.std.proofs.lemmas.List.Elements.{All-get_or, All-replicate}
 use Rattle.std.proofs.lemmas.List.{length-set, length-take}
 use Rattle.std.proofs.lemmas.Bool.{leb-true, leb-false, eqb-false, and_parts}
@@ -18,8 +18,8 @@ use Rattle.rules.specs.declared.types.State.{State}
 use Rattle.rules.specs.declared.types.State.TheVariants.{Idle, WritingBack}
 use Rattle.rules.specs.Kit.{Kit}
 use Rattle.rules.specs.Logs.{is_empty, put, note, lacks_room_for, names, put_in, log_of}
-use Rattle.rules.specs.Heads.{new_head, is_idle, is_hardware, is_software, is_writing_back, abort, enter, begin, state_in}
-use Rattle.rules.specs.Bench.{Bench, head_at, table_with, read_log, write_log, present_snapshot, is_odd, map_at, lock_out, after_loads, cells_validated}
+use Rattle.rules.specs.Heads.{new_head, is_idle, is_hardware, is_software, is_writing_back, abort, with_transaction, begin, state_in}
+use Rattle.rules.specs.Bench.{Bench, head_at, table_with, read_log, write_log, present_snapshot, is_odd, lock_out, after_loads, cells_validated}
 use Rattle.rules.specs.Calls.{Outcome, admitted_open, admitted_read, admitted_write, admitted_close, admitted_push, admitted_jolt, admitted_again, admitted_drop, start_write_back, in_range, new_table, again_mode, is_last}
 use Rattle.rules.specs.Answers.{Answer}
 use Rattle.rules.specs.Bounds.{HeadBounds, InBounds, SameLengths, BoundsAtSetUp, BoundsKept}
@@ -90,7 +90,7 @@ module _ {W : Type 0} (kit : Kit W) (b : Bench W) (s : InBounds b.table) (k : �
   open_kept idle few =
       let n = b.table.opened + 1 in
       let old : busy h ≡ 0 = ap (λ t. cond t 0 1) idle in (
-        bounds-with b.table s k lt heads (swept_none heads) (begin mode.Hardware (present_snapshot b.table) (enter n h)) (open-bounds n (present_snapshot b.table) h)
+        bounds-with b.table s k lt heads (swept_none heads) (begin mode.Hardware (present_snapshot b.table) (with_transaction n h)) (open-bounds n (present_snapshot b.table) h)
             b.table.sequence b.table.commits n (omega arith) (omega arith) (omega arith) (omega arith),
         lengths,
       )
@@ -137,7 +137,7 @@ module _ {W : Type 0} (kit : Kit W) (b : Bench W) (s : InBounds b.table) (k : �
         let even : is_odd b.table.sequence ≡ false =
         sym (ap (λ t. (t && not (is_empty (write_log b k))) && is_odd b.table.sequence) software ∙ ap (λ t. not t && is_odd b.table.sequence) some) ∙ free in
         let old : busy h ≡ 1 = ap (λ t. cond t 0 1) going in
-        bounds-with b.table s k lt (map_at lock_out 0 (after_loads kit b k (cells_validated kit b k))) (swept-lock kit b k (cells_validated kit b k)) (become WritingBack (wrote 0 x))
+        bounds-with b.table s k lt (map lock_out (after_loads kit b k (cells_validated kit b k))) (swept-lock kit b k (cells_validated kit b k)) (become WritingBack (wrote 0 x))
         (back-bounds x (resnap-bounds h own (present_snapshot b.table)) 0 (omega (arith, some-length (write_log b k) some, length-log k h.writes b.writes)))
         (b.table.sequence + 1) b.table.commits b.table.opened s.opened (omega arith) (let le = s.numbered k new_head (omega (arith, s.eight)) in omega arith) (omega (arith, eqb-false (b.table.sequence % 2) 1 even))
 

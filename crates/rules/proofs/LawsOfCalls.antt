@@ -1,5 +1,5 @@
 -- The laws of single calls that can be told at a glance.
-use Rattle.std.proofs.Common.{◌≡◌, ℕ, Bool, true, false, not, ◌&&◌, eqb, leb, List, [], ◌∷◌, get_or, set, Some, None, Ok, Err, Option, sym, refl, ap, ◌∙◌, inl, is_ok, ◌+◌, ◌<◌, ◌≤◌, length, All, arith, ⊎_elim, nat_lt, subst}
+use Rattle.std.proofs.Common.{◌≡◌, ℕ, Bool, true, false, not, ◌&&◌, eqb, leb, List, [], ◌∷◌, get_or, set, Some, None, Ok, Err, Option, sym, refl, ap, ◌∙◌, inl, is_ok, ◌+◌, ◌<◌, ◌≤◌, length, All, arith, ⊎_elim, nat_lt, subst, map}
 use Rattle.std.proofs.lemmas.List.{get_or-set_other, get_or-set_same, set_past}
 use Rattle.std.proofs.lemmas.Bool.{both_ways, not_from_false, eq-eqb, ne_eqb, lt-leb, cond_both, cases_lt, ltb-true}
 use Rattle.parts.specs.declared.types.Cause.{Cause}
@@ -15,7 +15,7 @@ use Rattle.rules.specs.declared.types.Refusal.{Refusal}
 use Rattle.rules.specs.declared.types.Refusal.TheVariants as refuse
 use Rattle.rules.specs.Kit.{Kit}
 use Rattle.rules.specs.Heads.{new_head, is_hardware, is_aborted, abort}
-use Rattle.rules.specs.Bench.{Bench, is_odd, head_at, after_loads, cells_validated, map_at, lock_out, holds, holds_same, cells_loaded, write_log}
+use Rattle.rules.specs.Bench.{Bench, is_odd, head_at, after_loads, cells_validated, lock_out, holds, holds_same, cells_loaded, write_log}
 use Rattle.rules.specs.Refusals.{by_handle, by_number, lengths_match, is_beyond, takes, why_not, waits, lacks_slot, lacks_transaction, lacks_attempt, when, first_found, refusal, refusals}
 use Rattle.rules.specs.Calls.{Outcome}
 use Rattle.rules.specs.Answers.{Answer, with_answer, call_of}
@@ -207,7 +207,7 @@ module _ {W : Type 0} (kit : Kit W) (b : Bench W) (k : ℕ) where
       by-write kit b k c w (λ (o : Outcome (Unit {0}) W). Hit (head_at b j) (head_at o.left j)) (λ ys p. other-set ys p _ j ne) (other-alone _ j ne)
   others-hit Close j ne =
       by-close kit b k (λ (o : Outcome Closing W). Hit (head_at b j) (head_at o.left j)) (λ _. other-alone _ j ne) (other-alone _ j ne)
-      (λ _ _. other-set (map_at lock_out 0 (after_loads kit b k (cells_validated kit b k))) (swept-lock kit b k (cells_validated kit b k)) _ j ne)
+      (λ _ _. other-set (map lock_out (after_loads kit b k (cells_validated kit b k))) (swept-lock kit b k (cells_validated kit b k)) _ j ne)
       (λ ys p. other-set ys p _ j ne)
   others-hit Push j ne = other-alone _ j ne
   others-hit Jolt j ne = other-alone _ j ne
@@ -286,7 +286,7 @@ module _ {W : Type 0} (kit : Kit W) (b : Bench W) (k : ℕ) where
   numbers-kept Close ne =
       by-close kit b k (λ (o : Outcome Closing W). SameNumbers b o.left) (λ _. (number-kept b.table.heads (swept_none b.table.heads) _ refl, refl))
       (number-kept b.table.heads (swept_none b.table.heads) _ refl, refl)
-      (λ _ _. (number-kept (map_at lock_out 0 (after_loads kit b k (cells_validated kit b k))) (swept-lock kit b k (cells_validated kit b k)) _ refl, refl))
+      (λ _ _. (number-kept (map lock_out (after_loads kit b k (cells_validated kit b k))) (swept-lock kit b k (cells_validated kit b k)) _ refl, refl))
       (λ ys p. (number-kept ys p _ refl, refl))
   numbers-kept call ne = (number-kept b.table.heads (swept_none b.table.heads) _ refl, refl)
 

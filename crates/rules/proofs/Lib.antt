@@ -1,5 +1,6 @@
 pub mod Basics
 pub mod Records
+pub mod Lawful
 pub mod Admitted
 pub mod Laid
 pub mod Taken

@@ -7,7 +7,8 @@ use Rattle.std.proofs.lemmas.List.{set-set, set_comm, length-append, reverse-app
 use Rattle.std.proofs.lemmas.List.Elements.{All-append, All-nil, All-cons, All-head, All-tail}
 use Rattle.rules.specs.declared.types.Slot.{Slot}
 use Rattle.rules.specs.Logs.{slot, is_empty, names, word_for, put, note, lacks_room_for, put_in}
-use Rattle.rules.specs.Kit.{Kit, Lawful}
+use Rattle.rules.specs.Kit.{Kit}
+use Rattle.rules.proofs.Lawful.{Lawful}
 use Rattle.rules.specs.Bench.{Bench, holds, holds_same}
 use Rattle.rules.specs.RunLaws.{Agrees}
 use Rattle.rules.proofs.Seats.{meets}

@@ -74,9 +74,9 @@ pub map_at-id : {X : Type 0} (i : ℕ) (hs : List X) → map_at (λ _ x. x) i hs
 map_at-id i [] = refl
 map_at-id {X} i (x ∷ hs) = ap (λ (ys : List X). x ∷ ys) (map_at-id (i + 1) hs)
 
-pub map_at-twice : {X : Type 0} (f g : ℕ → X → X) (i : ℕ) (xs : List X) → map_at f i (map_at g i xs) ≡ map_at (λ j x. f j (g j x)) i xs
-map_at-twice f g i [] = refl
-map_at-twice {X} f g i (x ∷ xs) = ap (λ (ys : List X). f i (g i x) ∷ ys) (map_at-twice f g (i + 1) xs)
+pub map-map_at : {X : Type 0} (f : X → X) (g : ℕ → X → X) (i : ℕ) (xs : List X) → map f (map_at g i xs) ≡ map_at (λ j x. f (g j x)) i xs
+map-map_at f g i [] = refl
+map-map_at {X} f g i (x ∷ xs) = ap (λ (ys : List X). f (g i x) ∷ ys) (map-map_at f g (i + 1) xs)
 
 module _ {W : Type 0} where
   nth-seats : (reads writes : List (Slot W)) (i : ℕ) (xs : List Head) (n k : ℕ) → k < n → k < length xs

@@ -11,8 +11,9 @@ use Rattle.parts.specs.declared.calls.Call.TheVariants.{Open, Jolt, Again, Drop}
 use Rattle.rules.specs.declared.types.Granted.TheVariants as granted
 use Rattle.rules.specs.declared.types.State.{State}
 use Rattle.rules.specs.declared.types.State.TheVariants.{Idle, Hardware, Software, Aborted, WritingBack}
-use Rattle.rules.specs.Kit.{Kit, Lawful}
-use Rattle.rules.specs.Heads.{is_idle, is_hardware, is_software, is_aborted, abort, enter, begin, next_mode}
+use Rattle.rules.specs.Kit.{Kit}
+use Rattle.rules.proofs.Lawful.{Lawful}
+use Rattle.rules.specs.Heads.{is_idle, is_hardware, is_software, is_aborted, abort, with_transaction, begin, next_mode}
 use Rattle.rules.specs.Bench.{Bench, head_at, present_snapshot, is_odd}
 use Rattle.rules.specs.Calls.{becomes, admitted_open, admitted_jolt, admitted_drop, admitted_again, again_mode}
 use Rattle.rules.specs.Answers.{with_answer}
@@ -70,7 +71,7 @@ module _ {W : Type 0} (kit : Kit W) (law : Lawful kit) (start : List W) (b : Ben
   pub keep-open : is_idle me.head.state ≡ true → is_odd m.sequence ≡ false → Keeps kit start l h Open (with_answer granted.Begun (admitted_open b h))
   keep-open idle even =
       let n = length l.closes in
-      keep-alone kit start _ b bounds lists h lt b.table.sequence b.table.commits (b.table.opened + 1) (begin mode.Hardware (present_snapshot b.table) (enter (b.table.opened + 1) (head_at b h)))
+      keep-alone kit start _ b bounds lists h lt b.table.sequence b.table.commits (b.table.opened + 1) (begin mode.Hardware (present_snapshot b.table) (with_transaction (b.table.opened + 1) (head_at b h)))
       b.cells b.reads b.writes (untouched b bounds lists h lt)
       (quiet_at kit start m l inv h me at _ (λ o. o) _ _ _ l.ended struck-same
       (λ k ne. turned-other l.pages h _ k ne) (turned-here l.pages h _)

@@ -11,7 +11,8 @@ use Rattle.rules.specs.declared.types.Closing.TheVariants as closing
 use Rattle.rules.specs.declared.types.Granted.TheVariants as granted
 use Rattle.rules.specs.declared.types.Head.{Head}
 use Rattle.rules.specs.declared.types.State.TheVariants.{Idle, WritingBack}
-use Rattle.rules.specs.Kit.{Kit, Lawful}
+use Rattle.rules.specs.Kit.{Kit}
+use Rattle.rules.proofs.Lawful.{Lawful}
 use Rattle.rules.specs.Logs.{is_empty, put_in}
 use Rattle.rules.specs.Heads.{is_hardware, is_software, is_aborted, is_writing_back, abort}
 use Rattle.rules.specs.Bench.{Bench, head_at, present_snapshot, is_odd, is_valid, cells_validated, abort_if_hit, hit_by_loads, lock_out}
@@ -23,7 +24,7 @@ use Rattle.rules.specs.RunLaws.{Agrees, Explained, Bounded, most_attempts}
 use Rattle.rules.proofs.Records.{bench, with_numbers, become, wrote, resnap}
 use Rattle.rules.proofs.Basics.{wrong, nth-set-same, nth-map-some, after-each}
 use Rattle.rules.proofs.Admitted.{Sized}
-use Rattle.rules.proofs.Seats.{Seat, Rig, view, seat_of, loaded, locked, map_at-twice}
+use Rattle.rules.proofs.Seats.{Seat, Rig, view, seat_of, loaded, locked, map-map_at}
 use Rattle.rules.proofs.Views.{seat-there, untouched, conflict-seen, locks-seen}
 use Rattle.rules.proofs.LogLaws.{agrees-put-in}
 use Rattle.rules.proofs.HistoryLaws.{after-append, count-stable, count-grown, explained-grown, bounded-grown}
@@ -200,9 +201,9 @@ module _ {W : Type 0} (kit : Kit W) (law : Lawful kit) (start : List W) (b : Ben
       cond_both (is_valid kit b h) _ _ Kept
       (λ e.
       subst (λ hs. Inv kit start (view (bench (with_numbers b.table (set hs h x) (b.table.sequence + 1) b.table.commits b.table.opened) b.cells b.reads b.writes)) (l' true))
-      (sym (map_at-twice lock_out strike 0 b.table.heads))
+      (sym (map-map_at lock_out strike 0 b.table.heads))
       (keep-swept kit start _ b bounds lists h lt (b.table.sequence + 1) b.table.commits b.table.opened x b.cells b.reads b.writes
-      (λ j y. lock_out j (strike j y)) f (locks-seen b bounds lists h lt b.reads b.writes (untouched b bounds lists h lt) (hit_by_loads kit (cells_validated kit b h)))
+      (λ j y. lock_out (strike j y)) f (locks-seen b bounds lists h lt b.reads b.writes (untouched b bounds lists h lt) (hit_by_loads kit (cells_validated kit b h)))
       (moving kit start m l inv h me me' f (m.sequence + 1) m.commits m.cells (commit ∷ []) closes'
       (pages_with l.pages h (page' true)) (page' true) l.past (end me.head.attempts ∷ l.ended)
       at struck (λ k ne. turned-other l.pages h _ k ne) (turned-here l.pages h _) refl other-head (omega arith) (omega arith)

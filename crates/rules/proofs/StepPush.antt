@@ -10,7 +10,8 @@ use Rattle.rules.specs.declared.types.Granted.TheVariants as granted
 use Rattle.rules.specs.declared.types.Head.{Head}
 use Rattle.rules.specs.declared.types.Slot.{Slot}
 use Rattle.rules.specs.declared.types.State.TheVariants.{Idle, WritingBack}
-use Rattle.rules.specs.Kit.{Kit, Lawful}
+use Rattle.rules.specs.Kit.{Kit}
+use Rattle.rules.proofs.Lawful.{Lawful}
 use Rattle.rules.specs.Logs.{put_in}
 use Rattle.rules.specs.Heads.{is_hardware, is_writing_back}
 use Rattle.rules.specs.Bench.{Bench, head_at, is_odd}

@@ -7,7 +7,8 @@ use Rattle.parts.specs.declared.calls.Call.TheVariants.{Read}
 use Rattle.rules.specs.declared.types.Granted.TheVariants as granted
 use Rattle.rules.specs.declared.types.Head.{Head}
 use Rattle.rules.specs.declared.types.Slot.{Slot}
-use Rattle.rules.specs.Kit.{Kit, Lawful}
+use Rattle.rules.specs.Kit.{Kit}
+use Rattle.rules.proofs.Lawful.{Lawful}
 use Rattle.rules.specs.Logs.{slot, is_empty, names, word_for, note, lacks_room_for, put_in, log_of, slots_with}
 use Rattle.rules.specs.Heads.{is_hardware, is_software, abort}
 use Rattle.rules.specs.Bench.{Bench, head_at, present_snapshot, is_odd, is_valid, cells_validated, after_loads, abort_if_hit, hit_by_loads}
@@ -37,7 +38,7 @@ more-read c w p = record p { attempt = record p.attempt { reads = p.attempt.read
 
 abbrev more-own : {W : Type 0} → ℕ → W → Page W → Page W
 more-own c w p =
-    record p { attempt = record p.attempt { own_reads = p.attempt.own_reads ++ (record { word = w; written = last_written c p.attempt.writes } ∷ []) } }
+    record p { attempt = record p.attempt { own_reads = p.attempt.own_reads ++ (record { word = w; latest = last_written c p.attempt.writes } ∷ []) } }
 
 -- putting what is there already
 set-there : {X : Type 0} (xs : List X) (k : ℕ) (x : X) → slice_get xs k ≡ Some x → set (map (λ (x : X). x) xs) k x ≡ xs
@@ -267,7 +268,7 @@ module _ {W : Type 0} (kit : Kit W) (law : Lawful kit) (start : List W) (b : Ben
         is_prefix = x.is_prefix;
         explains = x.explains;
         own_place = x.own_place;
-        own_reads = All-push (λ (r : OwnRead W). r.written ≡ Some r.word) _ _ x.own_reads (sym (linked.latest c) ∙ e);
+        own_reads = All-push (λ (r : OwnRead W). r.latest ≡ Some r.word) _ _ x.own_reads (sym (linked.latest c) ∙ e);
       })
       inv.ended (inv.bound h))
 
@@ -275,7 +276,7 @@ module _ {W : Type 0} (kit : Kit W) (law : Lawful kit) (start : List W) (b : Ben
       → Kept (admitted_read kit b h c)
   keep-read calm room =
       by-option (word_for c me.writes)
-      (λ o. Kept (logged_or o (λ w. leaves b h (Ok w) b.table) (with_word (slice_get m.cells c) b from_cell)))
+      (λ o. Kept (logged_or o (λ w. leaves b (Ok w) b.table) (with_word (slice_get m.cells c) b from_cell)))
       (λ e.
       let none = word_none c me.writes e in
       let few = gate (not (names c me.writes)) (lacks_room_for c me.reads) room (ap not none) in

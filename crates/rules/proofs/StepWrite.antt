@@ -7,7 +7,8 @@ use Rattle.parts.specs.declared.calls.Call.TheVariants.{Write}
 use Rattle.rules.specs.declared.types.Granted.TheVariants as granted
 use Rattle.rules.specs.declared.types.Head.{Head}
 use Rattle.rules.specs.declared.types.Slot.{Slot}
-use Rattle.rules.specs.Kit.{Kit, Lawful}
+use Rattle.rules.specs.Kit.{Kit}
+use Rattle.rules.proofs.Lawful.{Lawful}
 use Rattle.rules.specs.Logs.{slot, put, lacks_room_for, slots_with}
 use Rattle.rules.specs.Heads.{is_hardware, is_software, abort}
 use Rattle.rules.specs.Bench.{Bench, head_at, abort_if_hit, hit_by_store}

@@ -1,5 +1,5 @@
 -- What a call does to the other heads: each stays as it was, or aborts in hardware.
-use Rattle.std.proofs.Common.{◌≡◌, ℕ, zero, suc, ◌+◌, Bool, true, cond, not, ◌&&◌, eqb, ◌⊎◌, List, [], ◌∷◌, get_or, refl, ap, inl, inr, ⊎_elim, set}
+use Rattle.std.proofs.Common.{◌≡◌, ℕ, zero, suc, ◌+◌, Bool, true, cond, not, ◌&&◌, eqb, ◌⊎◌, List, [], ◌∷◌, get_or, refl, ap, inl, inr, ⊎_elim, set, map}
 use Rattle.std.specs.List.{AllZip}
 use Rattle.std.proofs.lemmas.Bool.{and_parts, cond_both}
 use Rattle.parts.specs.declared.types.Cause.{Cause}
@@ -25,12 +25,12 @@ pub swept_none : (xs : List Head) → Swept xs xs
 swept_none [] = tt
 swept_none (x ∷ xs) = (inl refl, swept_none xs)
 
--- each head is then done to by its place
-swept-then : (f : ℕ → Head → Head) → ((j : ℕ) (x y : Head) → Hit x y → Hit x (f j y)) → (i : ℕ) (xs ys : List Head) → Swept xs ys → Swept xs (map_at f i ys)
-swept-then f h i [] [] p = tt
-swept-then f h i [] (y ∷ ys) p = p
-swept-then f h i (x ∷ xs) [] p = p
-swept-then f h i (x ∷ xs) (y ∷ ys) p = (h i x y p.0, swept-then f h (i + 1) xs ys p.1)
+-- each head is then done to
+swept-then : (f : Head → Head) → ((x y : Head) → Hit x y → Hit x (f y)) → (xs ys : List Head) → Swept xs ys → Swept xs (map f ys)
+swept-then f h [] [] p = tt
+swept-then f h [] (y ∷ ys) p = p
+swept-then f h (x ∷ xs) [] p = p
+swept-then f h (x ∷ xs) (y ∷ ys) p = (h x y p.0, swept-then f h xs ys p.1)
 
 swept_once : (f : ℕ → Head → Head) → ((j : ℕ) (x : Head) → Hit x (f j x)) → (i : ℕ) (xs : List Head) → Swept xs (map_at f i xs)
 swept_once f h i [] = tt
@@ -61,14 +61,14 @@ module _ {W : Type 0} (kit : Kit W) (b : Bench W) (k : ℕ) where
   swept-store c = swept-conflict (hit_by_store kit c)
 
   -- and after the lock is taken: one that has aborted already is not locked out
-  pub swept-lock : (cs : List ℕ) → Swept b.table.heads (map_at lock_out 0 (after_loads kit b k cs))
+  pub swept-lock : (cs : List ℕ) → Swept b.table.heads (map lock_out (after_loads kit b k cs))
   swept-lock cs =
       swept-then lock_out
-      (λ j x y h. ⊎_elim
+      (λ x y h. ⊎_elim
       (λ (e : y ≡ x). rw e (hit-if (is_locked_out x.state) Lock x (locked-out x.state)))
-      (λ (q : (is_hardware x.state ≡ true) × ((cause : Cause) × (y ≡ abort cause x))). inr (q.0, (q.1.0, ap (lock_out j) q.1.1)))
+      (λ (q : (is_hardware x.state ≡ true) × ((cause : Cause) × (y ≡ abort cause x))). inr (q.0, (q.1.0, ap lock_out q.1.1)))
       h)
-      0 b.table.heads (after_loads kit b k cs) (swept-loads cs)
+      b.table.heads (after_loads kit b k cs) (swept-loads cs)
 
 -- and so each by its place, also past the last
 pub swept_at : (xs ys : List Head) (j : ℕ) (d : Head) → Swept xs ys → Hit (get_or xs j d) (get_or ys j d)

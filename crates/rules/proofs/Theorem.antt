@@ -12,7 +12,8 @@ use Rattle.rules.specs.declared.types.MadeCall.{MadeCall}
 use Rattle.rules.specs.declared.types.Refusal.{Refusal}
 use Rattle.rules.specs.declared.types.Refusal.TheVariants as refuse
 use Rattle.rules.specs.declared.types.Slot.{Slot}
-use Rattle.rules.specs.Kit.{Kit, Lawful}
+use Rattle.rules.specs.Kit.{Kit}
+use Rattle.rules.proofs.Lawful.{Lawful}
 use Rattle.rules.specs.Heads.{new_head, is_hardware, is_writing_back}
 use Rattle.rules.specs.Bench.{Bench, is_odd}
 use Rattle.rules.specs.Calls.{new_table}

@@ -84,10 +84,10 @@ module _ {W : Type 0} (b : Bench W) (bounds : InBounds b.table) (lists : Sized b
         ap (λ t. seat_at reads writes j (cond (not t && hurt) (abort Conflict x) x)) (ne_eqb j k ne)
         ∙ by-test hurt (λ t. seat_at reads writes j (cond t (abort Conflict x) x) ≡ cond t (abort_seat Conflict it) it) (λ _. refl) (λ _. same j x bound ne)
 
-    lock-seen : (j : ℕ) (x : Head) → seat_at reads writes j (lock_out j x) ≡ locked (seat_at reads writes j x)
+    lock-seen : (j : ℕ) (x : Head) → seat_at reads writes j (lock_out x) ≡ locked (seat_at reads writes j x)
     lock-seen j x =
         by-test (is_locked_out x.state) (λ t. seat_at reads writes j (cond t (abort Lock x) x) ≡ cond t (abort_seat Lock (seat_at reads writes j x)) (seat_at reads writes j x))
         (λ _. refl) (λ _. refl)
 
-    pub locks-seen : (hit : List (Slot W) → List (Slot W) → Bool) → Elsewhere (λ j x. lock_out j (abort_if_hit b k hit j x)) (λ o. locked (struck_by hit o)) reads writes
+    pub locks-seen : (hit : List (Slot W) → List (Slot W) → Bool) → Elsewhere (λ j x. lock_out (abort_if_hit b k hit j x)) (λ o. locked (struck_by hit o)) reads writes
     locks-seen hit j x bound ne = lock-seen j (abort_if_hit b k hit j x) ∙ ap locked (conflict-seen hit j x bound ne)

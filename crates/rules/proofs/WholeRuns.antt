@@ -3,7 +3,8 @@ use Rattle.std.proofs.Common.{◌≡◌, ℕ, ◌≤◌, true, cond, ◌&&◌, l
 use Rattle.std.proofs.lemmas.Bool.{and_parts, leb-true}
 use Rattle.rules.specs.declared.types.Refusal.TheVariants as refuse
 use Rattle.rules.specs.declared.types.Table.{Table}
-use Rattle.rules.specs.Kit.{Kit, Lawful}
+use Rattle.rules.specs.Kit.{Kit}
+use Rattle.rules.proofs.Lawful.{Lawful}
 use Rattle.rules.specs.Calls.{in_range, new_table, set_up}
 use Rattle.rules.specs.Runs.{answers_of, left_by}
 use Rattle.rules.specs.History.{nothing_yet, history_of}

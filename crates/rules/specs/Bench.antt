@@ -100,5 +100,5 @@ module _ {W : Type 0} (kit : Kit W) (b : Bench W) (k : ℕ) where
 abbrev pub is_locked_out : State → Bool
 is_locked_out s = is_hardware s
 
-abbrev pub lock_out : ℕ → Head → Head
-lock_out j x = if is_locked_out x.state then abort Lock x else x
+abbrev pub lock_out : Head → Head
+lock_out x = if is_locked_out x.state then abort Lock x else x

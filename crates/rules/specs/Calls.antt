@@ -1,5 +1,5 @@
 -- The rule book: what each call answers, and the table and lists that it leaves.
-use Rattle.std.specs.Prelude.{ℕ, ◌+◌, ◌-◌, Bool, ◌&&◌, List, [], ◌∷◌, ◌++◌, length, take, drop, replicate, Some, None, Ok, Err, Option, Result, nat_le, if◌then◌else◌}
+use Rattle.std.specs.Prelude.{ℕ, ◌+◌, ◌-◌, Bool, ◌&&◌, List, [], ◌∷◌, ◌++◌, map, length, take, drop, replicate, Some, None, Ok, Err, Option, Result, nat_le, if◌then◌else◌}
 use Rattle.std.specs.List.{slice_get}
 use Rattle.parts.specs.declared.types.Cause.{Cause}
 use Rattle.parts.specs.declared.types.Cause.TheVariants.{Capacity, Other, Changed}
@@ -17,8 +17,8 @@ use Rattle.rules.specs.declared.types.State.TheVariants.{Idle, WritingBack}
 use Rattle.rules.specs.declared.types.Table.{Table}
 use Rattle.rules.specs.Kit.{Kit}
 use Rattle.rules.specs.Logs.{is_empty, word_for, put, note, lines_of, distinct_count, put_in, slots_with}
-use Rattle.rules.specs.Heads.{new_head, is_hardware, empty_logs, abort, enter, begin, next_mode, stores_after}
-use Rattle.rules.specs.Bench.{Bench, head_at, read_log, write_log, table_with, present_snapshot, map_at, after_loads, after_store, lock_out, is_valid, cells_validated}
+use Rattle.rules.specs.Heads.{new_head, is_hardware, empty_logs, abort, with_transaction, begin, next_mode, stores_after}
+use Rattle.rules.specs.Bench.{Bench, head_at, read_log, write_log, table_with, present_snapshot, after_loads, after_store, lock_out, is_valid, cells_validated}
 use Rattle.rules.specs.Refusals.{refusal}
 
 -- what a call answers and leaves
@@ -43,7 +43,7 @@ new_table heads cells = record {
 abbrev pub set_up : ℕ → ℕ → Result Table Refusal
 set_up heads cells = if in_range heads cells then Ok (new_table heads cells) else Err refuse.OutOfRange
 
--- a refusal changes nothing
+-- a refusal that is found before the call is carried out changes nothing
 abbrev pub refuses : {A W : Type 0} → Bench W → Refusal → Outcome A W
 refuses b e = record { answer = Err e; left = b }
 
@@ -61,25 +61,25 @@ abbrev pub logged_or : {A W : Type 0} → Option W → (W → Outcome A W) → O
 logged_or None logged loaded = loaded
 logged_or (Some w) logged loaded = logged w
 
-module _ {W : Type 0} (b : Bench W) (k : ℕ) where
-  -- another table, and the lists as they are
-  abbrev pub leaves : {A : Type 0} → Result A Refusal → Table → Outcome A W
-  leaves answer t = record { answer = answer; left = record b { table = t } }
+-- another table, and the lists as they are
+abbrev pub leaves : {A W : Type 0} → Bench W → Result A Refusal → Table → Outcome A W
+leaves b answer t = record { answer = answer; left = record b { table = t } }
 
+module _ {W : Type 0} (b : Bench W) (k : ℕ) where
   -- the head k becomes h, and nothing else changes
   abbrev pub becomes : {A : Type 0} → Result A Refusal → Head → Outcome A W
-  becomes answer h = leaves answer (table_with b k b.table.heads h)
+  becomes answer h = leaves b answer (table_with b k b.table.heads h)
 
   -- the head k aborts in this call
   abbrev pub aborts_in : {A : Type 0} → List Head → Cause → Head → Outcome A W
-  aborts_in heads cause h = leaves (Err (refuse.Aborted cause)) (table_with b k heads (abort cause h))
+  aborts_in heads cause h = leaves b (Err (refuse.Aborted cause)) (table_with b k heads (abort cause h))
 
   -- open: one transaction more, and its first attempt begins in hardware
   abbrev pub admitted_open : Outcome Mode W
   admitted_open =
       let n = b.table.opened + 1 in
-      let h = begin mode.Hardware (present_snapshot b.table) (enter n (head_at b k)) in
-      leaves (Ok mode.Hardware) (record (table_with b k b.table.heads h) { opened = n })
+      let h = begin mode.Hardware (present_snapshot b.table) (with_transaction n (head_at b k)) in
+      leaves b (Ok mode.Hardware) (record (table_with b k b.table.heads h) { opened = n })
 
   -- push: the next slot goes into its cell; the last one frees the lock
   abbrev pub is_last : Bool
@@ -147,7 +147,7 @@ module _ {W : Type 0} (kit : Kit W) (b : Bench W) (k : ℕ) where
 
   abbrev pub admitted_read : ℕ → Outcome W W
   admitted_read c =
-      logged_or (word_for c (write_log b k)) (λ w. leaves b k (Ok w) b.table)
+      logged_or (word_for c (write_log b k)) (λ w. leaves b (Ok w) b.table)
       (with_word (slice_get b.cells c) b (λ w. if is_hardware me.state then hardware_read c w else software_read c w))
 
   -- write: the slot is put first, and stays in the list even if the attempt then aborts
@@ -171,14 +171,11 @@ module _ {W : Type 0} (kit : Kit W) (b : Bench W) (k : ℕ) where
       if is_hardware me.state then hardware_write c log h else puts_word (Ok tt) log b.table.heads h
 
   -- close: in hardware the write log goes into the cells at once
-  abbrev pub goes_idle : Head
-  goes_idle = record me { state = Idle }
-
   abbrev pub hardware_close : Outcome Closing W
   hardware_close = record {
     answer = Ok (closing.Complete me.attempts);
     left = record b {
-      table = record (table_with b k b.table.heads goes_idle) { commits = b.table.commits + 1 };
+      table = record (table_with b k b.table.heads (record me { state = Idle })) { commits = b.table.commits + 1 };
       cells = put_in (write_log b k) b.cells;
     };
   }
@@ -186,9 +183,9 @@ module _ {W : Type 0} (kit : Kit W) (b : Bench W) (k : ℕ) where
   -- in software the sequence lock is taken, which aborts every hardware head, and the log is pushed slot by slot
   abbrev pub start_write_back : Outcome Closing W
   start_write_back =
-      let heads = map_at lock_out 0 (after_loads kit b k (cells_validated kit b k)) in
+      let heads = map lock_out (after_loads kit b k (cells_validated kit b k)) in
       let h = record me { state = WritingBack; written = 0; snapshot = present_snapshot b.table } in
-      leaves b k (Ok (closing.WritingBack h.attempts)) (record (table_with b k heads h) { sequence = b.table.sequence + 1 })
+      leaves b (Ok (closing.WritingBack h.attempts)) (record (table_with b k heads h) { sequence = b.table.sequence + 1 })
 
   abbrev pub software_close : Outcome Closing W
   software_close =
@@ -200,7 +197,7 @@ module _ {W : Type 0} (kit : Kit W) (b : Bench W) (k : ℕ) where
   admitted_close =
       if is_hardware me.state
       then hardware_close
-      else (if is_empty (write_log b k) then becomes b k (Ok (closing.Complete me.attempts)) goes_idle else software_close)
+      else (if is_empty (write_log b k) then becomes b k (Ok (closing.Complete me.attempts)) (record me { state = Idle }) else software_close)
 
 -- the eight calls, each by a caller; these ask neither board nor policy, and test no word
 module _ {W : Type 0} (b : Bench W) (who : Caller) where

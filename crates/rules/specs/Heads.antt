@@ -1,7 +1,7 @@
 -- What becomes of a head's record.
 use Rattle.std.specs.Prelude.{ℕ, ◌+◌, Bool, true, false, if◌then◌else◌}
 use Rattle.parts.specs.declared.types.Cause.{Cause}
-use Rattle.parts.specs.declared.types.Cause.TheVariants.{Conflict, Capacity, Lock, Other, Changed}
+use Rattle.parts.specs.declared.types.Cause.TheVariants.{Changed}
 use Rattle.parts.specs.declared.types.Mode.{Mode}
 use Rattle.parts.specs.declared.types.Mode.TheVariants as mode
 use Rattle.parts.specs.Boards.{held_count}
@@ -53,8 +53,8 @@ abbrev pub abort : Cause → Head → Head
 abort cause h = record (empty_logs h) { state = Aborted cause; aborts = if is_hardware h.state then h.aborts + 1 else h.aborts }
 
 -- a new transaction, the n-th
-abbrev pub enter : ℕ → Head → Head
-enter n h = record h { transaction = n; attempts = 0; aborts = 0 }
+abbrev pub with_transaction : ℕ → Head → Head
+with_transaction n h = record h { transaction = n; attempts = 0; aborts = 0 }
 
 abbrev pub state_in : Mode → State
 state_in mode.Hardware = Hardware
@@ -73,11 +73,8 @@ begin m present h =
 -- how the next attempt runs: as the policy says after a hardware attempt, and in software after a software one,
 -- which only a change aborts
 abbrev pub next_mode : (Cause → ℕ → Mode) → ℕ → State → Mode
-next_mode next aborts (Aborted Conflict) = next Conflict aborts
-next_mode next aborts (Aborted Capacity) = next Capacity aborts
-next_mode next aborts (Aborted Lock) = next Lock aborts
-next_mode next aborts (Aborted Other) = next Other aborts
 next_mode next aborts (Aborted Changed) = mode.Software
+next_mode next aborts (Aborted cause) = next cause aborts
 next_mode next aborts s = mode.Software
 
 -- the stores after a write, of which only a hardware attempt's are counted, up to 65,535

@@ -15,10 +15,10 @@ pub record GrantedClose (W : Type 0) : Type 0 where
   pub head : ℕ
   pub writes : List (Slot W)
 
--- a word that was read of a cell which the attempt had written, and the word that it had written there last
+-- a word that was read of a cell which the attempt had written, and the latest word that it had written there
 pub record OwnRead (W : Type 0) : Type 0 where
   pub word : W
-  pub written : Option W
+  pub latest : Option W
 
 -- an attempt: how many closes were granted before it began, the words that it read from the cells, those that it read of
 -- its own writes, its granted writes, and, if it closed, how many closes were granted before its own
@@ -100,7 +100,7 @@ module _ {W : Type 0} (l : History W) (k : ℕ) where
   attempt_read c w =
       let a = page.attempt in
       if names c a.writes
-      then record a { own_reads = a.own_reads ++ (record { word = w; written = last_written c a.writes } ∷ []) }
+      then record a { own_reads = a.own_reads ++ (record { word = w; latest = last_written c a.writes } ∷ []) }
       else record a { reads = a.reads ++ (slot c w ∷ []) }
 
   abbrev after_read : ℕ → W → History W

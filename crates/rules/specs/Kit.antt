@@ -1,11 +1,10 @@
 -- What a rig is over: a kind of word, a board and a policy.
-use Rattle.std.specs.Prelude.{◌≡◌, ℕ, ◌≤◌, Bool, IsTrue, ◌↔◌}
+use Rattle.std.specs.Prelude.{ℕ, Bool}
 use Rattle.parts.specs.declared.words.Word.{Ghosts as Words}
 use Rattle.parts.specs.declared.boards.Board.{Ghosts as Boards}
 use Rattle.parts.specs.declared.policies.Policy.{Ghosts as Policies}
 use Rattle.parts.specs.declared.types.Cause.{Cause}
 use Rattle.parts.specs.declared.types.Mode.{Mode}
-use Rattle.parts.specs.declared.types.Mode.TheVariants as mode
 
 -- the words' test, the board's lines and what fits it, the policy's answer and its patience
 pub record Kit (W : Type 0) : Type 0 where
@@ -24,11 +23,3 @@ kit_of words boards policies board policy = record {
   next = policies.next policy;
   patience = policies.patience policy;
 }
-
--- what the traits' laws say of it
-pub record Lawful {W : Type 0} (kit : Kit W) : Type 0 where
-  -- two words are the same exactly when they are equal in every part
-  pub exact : (x y : W) → IsTrue (kit.same x y) ↔ (x ≡ y)
-  -- from as many hardware aborts on, the policy says software
-  pub ends : (cause : Cause) (aborts : ℕ) → kit.patience ≤ aborts → kit.next cause aborts ≡ mode.Software
-  pub some : 1 ≤ kit.patience

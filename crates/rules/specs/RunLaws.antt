@@ -29,7 +29,7 @@ module _ {W : Type 0} (closes : List (GrantedClose W)) where
     pub has_earlier : a.began ≤ prefix
     pub explains : Agrees (cells_after (take prefix closes) cells) a.reads
     pub own_place : (q : ℕ) → a.closed ≡ Some q → is_empty a.writes ≡ false → prefix ≡ q
-    pub own_reads : All (λ (r : OwnRead W). r.written ≡ Some r.word) a.own_reads
+    pub own_reads : All (λ (r : OwnRead W). r.latest ≡ Some r.word) a.own_reads
 
   -- a transaction that has ended made no more, and its granted close told how many
   abbrev pub Bounded : ℕ → EndedTransaction → Type 0

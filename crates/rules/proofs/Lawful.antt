@@ -1,0 +1,12 @@
+-- Those of the traits' laws that the proofs use.
+use Rattle.std.specs.Prelude.{◌≡◌, ℕ, ◌≤◌, IsTrue, ◌↔◌}
+use Rattle.parts.specs.declared.types.Cause.{Cause}
+use Rattle.parts.specs.declared.types.Mode.TheVariants as mode
+use Rattle.rules.specs.Kit.{Kit}
+
+pub record Lawful {W : Type 0} (kit : Kit W) : Type 0 where
+  -- two words are the same exactly when they are equal in every part
+  pub exact : (x y : W) → IsTrue (kit.same x y) ↔ (x ≡ y)
+  -- from as many hardware aborts on, the policy says software
+  pub ends : (cause : Cause) (aborts : ℕ) → kit.patience ≤ aborts → kit.next cause aborts ≡ mode.Software
+  pub some : 1 ≤ kit.patience
