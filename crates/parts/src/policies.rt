@@ -19,11 +19,11 @@ pub trait Policy {
         ensures { result ≡ next self.now cause aborts };
 
     // From as many hardware aborts on, the answer is software.
-    ghost ends: { (p : Self) (c : Cause) (aborts : ℕ) → patience p ≤ aborts → next p c aborts ≡ modes.Software };
+    ghost software_from_patience: { (p : Self) (c : Cause) (aborts : ℕ) → patience p ≤ aborts → next p c aborts ≡ modes.Software };
 
-    ghost some: { (p : Self) → 1 ≤ patience p };
+    ghost at_least_one: { (p : Self) → 1 ≤ patience p };
 
-    ghost most: { (p : Self) → patience p ≤ 64 };
+    ghost at_most_64: { (p : Self) → patience p ≤ 64 };
 }
 
 // In software from the n-th abort on.
@@ -46,11 +46,11 @@ impl Policy for Plain {
 
     ghost patience = { λ _. 3 };
 
-    ghost ends = { Prim.search rules };
+    ghost software_from_patience = { Prim.search rules };
 
-    ghost some = { Prim.search rules };
+    ghost at_least_one = { Prim.search rules };
 
-    ghost most = { Prim.search rules };
+    ghost at_most_64 = { Prim.search rules };
 
     fn next(&self, _cause: Cause, aborts: u32) -> Mode {
         software_from(3, aborts)
@@ -66,11 +66,11 @@ impl Policy for Careful {
 
     ghost patience = { λ _. 16 };
 
-    ghost ends = { Prim.search rules };
+    ghost software_from_patience = { Prim.search rules };
 
-    ghost some = { Prim.search rules };
+    ghost at_least_one = { Prim.search rules };
 
-    ghost most = { Prim.search rules };
+    ghost at_most_64 = { Prim.search rules };
 
     fn next(&self, cause: Cause, aborts: u32) -> Mode {
         let n = match cause {

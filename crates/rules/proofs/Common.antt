@@ -78,7 +78,7 @@ module _ {W : Type 0} (kit : Kit W) (law : Lawful kit) (start : List W) (b : Ben
 
   -- a software head aborts only after a close with writes of another head
   pub charged : (software : is_software me.head.state ≡ true) → is_odd m.sequence ≡ false → is_valid kit b h ≡ false
-      → me.head.attempts ≤ me.head.aborts + closes_of_others l.closes h (l.pages h).since (length l.closes)
+      → me.head.attempts ≤ me.head.hardware_aborts + closes_of_others l.closes h (l.pages h).since (length l.closes)
   charged software even unsound =
       let o = inv.heads h me at in
       let s = o.software software in
@@ -110,7 +110,7 @@ module _ {W : Type 0} (kit : Kit W) (law : Lawful kit) (start : List W) (b : Ben
       let running = software-running me.head.state software in
       let plain = going-plain me.head.state (running-going me.head.state running) in
       let budget = charged software even unsound in
-      let aborts : cond (is_hardware me.head.state) (me.head.aborts + 1) me.head.aborts ≡ me.head.aborts = cond-false (is_hardware me.head.state) (me.head.aborts + 1) me.head.aborts (software-not-hardware me.head.state software) in
+      let aborts : cond (is_hardware me.head.state) (me.head.hardware_aborts + 1) me.head.hardware_aborts ≡ me.head.hardware_aborts = cond-false (is_hardware me.head.state) (me.head.hardware_aborts + 1) me.head.hardware_aborts (software-not-hardware me.head.state software) in
       quiet_at kit start m l inv h me at (abort_seat Changed me) (loaded kit (cells_validated kit b h)) l.pages (l.pages h) l.past l.ended
       (struck-hit (hit_by_loads kit (cells_validated kit b h))) (λ k ne. refl) refl
       (record {

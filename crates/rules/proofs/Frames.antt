@@ -78,7 +78,7 @@ module _ {W : Type 0} (patience : ℕ) (start : List W) (S C : ℕ) (cells : Lis
       → HeadOk patience start S C cells closes k o page → HeadOk patience start S C cells closes k (abort_seat cause o) page
   head-aborts k o page cause e ok =
       let hardware = ok.hardware e in
-      let aborts : cond (is_hardware o.head.state) (o.head.aborts + 1) o.head.aborts ≡ o.head.aborts + 1 = cond-true (is_hardware o.head.state) (o.head.aborts + 1) o.head.aborts e in
+      let aborts : cond (is_hardware o.head.state) (o.head.hardware_aborts + 1) o.head.hardware_aborts ≡ o.head.hardware_aborts + 1 = cond-true (is_hardware o.head.state) (o.head.hardware_aborts + 1) o.head.hardware_aborts e in
       record {
         attempts = ok.attempts;
         since = ok.since;

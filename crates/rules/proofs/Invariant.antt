@@ -25,8 +25,8 @@ module _ {W : Type 0} (patience : ℕ) (start : List W) (S C : ℕ) (cells : Lis
   -- a hardware head's reads are valid now
   pub record HardwareOk (k : ℕ) (me : Seat W) (page : Page W) : Type 0 where
     pub valid : Agrees cells me.reads
-    pub under : me.head.aborts < patience
-    pub budget : me.head.attempts ≤ me.head.aborts + 1 + closes_of_others closes k page.since (length closes)
+    pub under : me.head.hardware_aborts < patience
+    pub budget : me.head.attempts ≤ me.head.hardware_aborts + 1 + closes_of_others closes k page.since (length closes)
 
   -- a software head's are valid after the first p closes, and now if its snapshot is the present one
   pub record SoftwareOk (k : ℕ) (me : Seat W) (page : Page W) : Type 0 where
@@ -39,12 +39,12 @@ module _ {W : Type 0} (patience : ℕ) (start : List W) (S C : ℕ) (cells : Lis
     pub within : p ≤ length closes
     pub valid-then : Agrees (cells_after (take p closes) start) me.reads
     pub since : page.since ≤ p
-    pub under : me.head.aborts ≤ patience
-    pub budget : me.head.attempts ≤ me.head.aborts + 1 + closes_of_others closes k page.since p
+    pub under : me.head.hardware_aborts ≤ patience
+    pub budget : me.head.attempts ≤ me.head.hardware_aborts + 1 + closes_of_others closes k page.since p
 
   pub record AbortedOk (k : ℕ) (me : Seat W) (page : Page W) : Type 0 where
-    pub under : me.head.aborts ≤ patience
-    pub budget : me.head.attempts ≤ me.head.aborts + closes_of_others closes k page.since (length closes)
+    pub under : me.head.hardware_aborts ≤ patience
+    pub budget : me.head.attempts ≤ me.head.hardware_aborts + closes_of_others closes k page.since (length closes)
 
   pub record HeadOk (k : ℕ) (me : Seat W) (page : Page W) : Type 0 where
     pub attempts : page.attempts ≡ me.head.attempts

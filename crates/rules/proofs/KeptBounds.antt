@@ -113,7 +113,7 @@ module _ {W : Type 0} (kit : Kit W) (b : Bench W) (s : InBounds b.table) (k : �
         (λ e ys p snap w.
         let log = note c w (read_log b k) in
         let free : lacks_room_for c (read_log b k) ≡ false = sym (ap (λ t. not t && lacks_room_for c (read_log b k)) (word_none c (write_log b k) e)) ∙ slot in
-        let few : length log ≤ 32 = few-noted c w (read_log b k) (omega (arith, length-log k h.reads b.reads, own.reads)) free in (
+        let few : length log ≤ 32 = few-noted c w (read_log b k) (omega (arith, length-log k h.read_count b.reads, own.reads)) free in (
           keeps ys p (read_more (length log) (resnap snap h)) (read-bounds (resnap snap h) (resnap-bounds h own snap) (length log) few) going refl,
           (refl, length-laid k log b.reads few room, refl),
         ))
@@ -122,7 +122,7 @@ module _ {W : Type 0} (kit : Kit W) (b : Bench W) (s : InBounds b.table) (k : �
     write_kept : (c : ℕ) (w : W) → is_writing_back h.state ≡ false → 32 * k + 32 ≤ length b.writes → lacks_room_for c (write_log b k) ≡ false → Kept b (admitted_write kit b k c w).left
     write_kept c w not_back room free =
         let log = put c w (write_log b k) in
-        let few : length log ≤ 32 = few-put c w (write_log b k) (omega (arith, length-log k h.writes b.writes, own.writes)) free in
+        let few : length log ≤ 32 = few-put c w (write_log b k) (omega (arith, length-log k h.write_count b.writes, own.writes)) free in
         let x = wrote_more (length log) h in
         let px = write-bounds h own (length log) few not_back in
         let len = length-laid k log b.writes few room in
@@ -138,7 +138,7 @@ module _ {W : Type 0} (kit : Kit W) (b : Bench W) (s : InBounds b.table) (k : �
         sym (ap (λ t. (t && not (is_empty (write_log b k))) && is_odd b.table.sequence) software ∙ ap (λ t. not t && is_odd b.table.sequence) some) ∙ free in
         let old : busy h ≡ 1 = ap (λ t. cond t 0 1) going in
         bounds-with b.table s k lt (map lock_out (after_loads kit b k (cells_validated kit b k))) (swept-lock kit b k (cells_validated kit b k)) (become WritingBack (wrote 0 x))
-        (back-bounds x (resnap-bounds h own (present_snapshot b.table)) 0 (omega (arith, some-length (write_log b k) some, length-log k h.writes b.writes)))
+        (back-bounds x (resnap-bounds h own (present_snapshot b.table)) 0 (omega (arith, some-length (write_log b k) some, length-log k h.write_count b.writes)))
         (b.table.sequence + 1) b.table.commits b.table.opened s.opened (omega arith) (let le = s.numbered k new_head (omega (arith, s.eight)) in omega arith) (omega (arith, eqb-false (b.table.sequence % 2) 1 even))
 
     close-kept : (is_hardware h.state ≡ false → is_software h.state ≡ true)
@@ -162,7 +162,7 @@ module _ {W : Type 0} (kit : Kit W) (b : Bench W) (s : InBounds b.table) (k : �
               }))
               (λ _. ends (become Idle x) (idle-bounds h own (h.written + 1)) refl refl (b.table.sequence + 1) b.table.commits (omega arith))
               (λ f. keeps heads (swept_none heads) (become WritingBack x)
-              (back-bounds h own (h.written + 1) (omega (arith, leb-false (length (write_log b k)) (h.written + 1) f, length-log k h.writes b.writes))) refl refl),
+              (back-bounds h own (h.written + 1) (omega (arith, leb-false (length (write_log b k)) (h.written + 1) f, length-log k h.write_count b.writes))) refl refl),
           (length-put-in (take 1 (drop h.written (write_log b k))) b.cells, refl, refl),
         )
 

@@ -8,5 +8,5 @@ pub record Lawful {W : Type 0} (kit : Kit W) : Type 0 where
   -- two words are the same exactly when they are equal in every part
   pub exact : (x y : W) → IsTrue (kit.same x y) ↔ (x ≡ y)
   -- from as many hardware aborts on, the policy says software
-  pub ends : (cause : Cause) (aborts : ℕ) → kit.patience ≤ aborts → kit.next cause aborts ≡ mode.Software
-  pub some : 1 ≤ kit.patience
+  pub software_from_patience : (cause : Cause) (aborts : ℕ) → kit.patience ≤ aborts → kit.next cause aborts ≡ mode.Software
+  pub at_least_one : 1 ≤ kit.patience

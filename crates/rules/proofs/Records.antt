@@ -31,7 +31,7 @@ abbrev pub resnap : Snapshot → Head → Head
 resnap s h = record h { snapshot = s }
 
 abbrev pub read_more : ℕ → Head → Head
-read_more n h = record h { reads = n }
+read_more n h = record h { read_count = n }
 
 abbrev pub wrote_more : ℕ → Head → Head
-wrote_more n h = record h { stores = stores_after h.state h.stores; writes = n }
+wrote_more n h = record h { stores = stores_after h.state h.stores; write_count = n }

@@ -52,7 +52,7 @@ module _ {W : Type 0} (kit : Kit W) where
 module _ {W : Type 0} where
   -- the head at the place k with its logs
   abbrev pub seat_at : List (Slot W) → List (Slot W) → ℕ → Head → Seat W
-  seat_at reads writes k x = record { head = x; reads = log_of k x.reads reads; writes = log_of k x.writes writes }
+  seat_at reads writes k x = record { head = x; reads = log_of k x.read_count reads; writes = log_of k x.write_count writes }
 
   abbrev pub seats : ℕ → List Head → List (Slot W) → List (Slot W) → List (Seat W)
   seats k [] reads writes = []

@@ -81,7 +81,7 @@ module _ {W : Type 0} (kit : Kit W) (law : Lawful kit) (start : List W) (b : Ben
         mark = refl;
         going = λ _. subst (All (λ s. eqb h s.head ≡ false)) (sym (drop_all n l.closes (omega arith))) (All-nil (λ s. eqb h s.head ≡ false));
         live = λ _. record { words = λ c. refl; puts = λ xs. refl; some = refl; apart = tt; reads = λ xs a. All-nil (AgreesAt xs); latest = λ c. refl; unclosed = refl };
-        hardware = λ _. record { valid = All-nil (AgreesAt m.cells); under = omega (arith, law.some); budget = omega arith };
+        hardware = λ _. record { valid = All-nil (AgreesAt m.cells); under = omega (arith, law.at_least_one); budget = omega arith };
         software = λ e. wrong e;
         aborted = λ e. wrong e;
       })
@@ -90,11 +90,11 @@ module _ {W : Type 0} (kit : Kit W) (law : Lawful kit) (start : List W) (b : Ben
       (All-cons (Explained l.closes start) (l.pages h).attempt l.past (inv.present h) inv.past) (record { prefix = n; is_prefix = omega arith; has_earlier = omega arith; explains = All-nil _; own_place = λ q e. cc; own_reads = All-nil _ }) inv.ended (omega arith))
 
   -- a policy that says hardware has patience left
-  patient : (c : Cause) → kit.next c me.head.aborts ≡ mode.Hardware → me.head.aborts < kit.patience
+  patient : (c : Cause) → kit.next c me.head.hardware_aborts ≡ mode.Hardware → me.head.hardware_aborts < kit.patience
   patient c e =
-      ⊎_elim (λ (lt : me.head.aborts < kit.patience). lt) (λ (ge : kit.patience ≤ me.head.aborts). cc (law.ends c me.head.aborts ge)) (cases_lt me.head.aborts kit.patience)
+      ⊎_elim (λ (lt : me.head.hardware_aborts < kit.patience). lt) (λ (ge : kit.patience ≤ me.head.hardware_aborts). cc (law.software_from_patience c me.head.hardware_aborts ge)) (cases_lt me.head.hardware_aborts kit.patience)
 
-  stays-hardware : (s : State) → next_mode kit.next me.head.aborts s ≡ mode.Hardware → me.head.aborts < kit.patience
+  stays-hardware : (s : State) → next_mode kit.next me.head.hardware_aborts s ≡ mode.Hardware → me.head.hardware_aborts < kit.patience
   stays-hardware Idle e = cc
   stays-hardware Hardware e = cc
   stays-hardware Software e = cc

@@ -116,13 +116,13 @@ module _ {W : Type 0} (kit : Kit W) (law : Lawful kit) (start : List W) (b : Ben
     noted-seat x = record { head = read_more (length new) x; reads = new; writes = me.writes }
 
     -- how the bench is seen once the word is note, after loads of these cells
-    note-kept : (cs : List ℕ) (x : Head) (l' : History W) → x.writes ≡ (head_at b h).writes
+    note-kept : (cs : List ℕ) (x : Head) (l' : History W) → x.write_count ≡ (head_at b h).write_count
         → Inv kit start (record { heads = set (map (loaded kit cs) m.heads) h (noted-seat x); sequence = m.sequence; commits = m.commits; cells = m.cells }) l'
         → Inv kit start (view (notes_word kit b h (after_loads kit b h cs) x c w).left) l'
     note-kept cs x l' ws i =
         let after = slots_with h new b.reads in
         let mine : seat_at after b.writes h (read_more (length new) x) ≡ noted-seat x =
-        ap (λ (r : List (Slot W)). record { head = read_more (length new) x; reads = r; writes = log_of h x.writes b.writes }) (own-log b bounds lists h lt b.reads new (read-room b bounds lists h lt) few)
+        ap (λ (r : List (Slot W)). record { head = read_more (length new) x; reads = r; writes = log_of h x.write_count b.writes }) (own-log b bounds lists h lt b.reads new (read-room b bounds lists h lt) few)
         ∙ ap (λ n. record { head = read_more (length new) x; reads = new; writes = log_of h n b.writes }) ws in
         keep-swept kit start l' b bounds lists h lt b.table.sequence b.table.commits b.table.opened (read_more (length new) x) b.cells after b.writes
         (abort_if_hit b h (hit_by_loads kit cs)) (loaded kit cs)

@@ -139,7 +139,7 @@ module _ {W : Type 0} (kit : Kit W) (law : Lawful kit) (start : List W) (b : Ben
       let k = o.hardware hardware in
       let even = hardware-even kit law start b l inv h at hardware in
       let plain = going-plain me.head.state (running-going me.head.state running) in
-      let aborts : cond (is_hardware me.head.state) (me.head.aborts + 1) me.head.aborts ≡ me.head.aborts + 1 = cond-true (is_hardware me.head.state) (me.head.aborts + 1) me.head.aborts hardware in
+      let aborts : cond (is_hardware me.head.state) (me.head.hardware_aborts + 1) me.head.hardware_aborts ≡ me.head.hardware_aborts + 1 = cond-true (is_hardware me.head.state) (me.head.hardware_aborts + 1) me.head.hardware_aborts hardware in
       cond_both (fits_write kit b h new x) _ _ Kept
       (λ e.
       keep-swept kit start _ b bounds lists h lt b.table.sequence b.table.commits b.table.opened x b.cells b.reads (slots_with h new b.writes)

@@ -49,7 +49,7 @@ module _ {W : Type 0} (kit : Kit W) (b : Bench W) (k : ℕ) where
   swept-conflict : (hit : List (Slot W) → List (Slot W) → Bool) → Swept b.table.heads (map_at (abort_if_hit b k hit) 0 b.table.heads)
   swept-conflict hit =
       swept_once (abort_if_hit b k hit)
-      (λ j x. let struck = hit (log_of j x.reads b.reads) (log_of j x.writes b.writes) in
+      (λ j x. let struck = hit (log_of j x.read_count b.reads) (log_of j x.write_count b.writes) in
       hit-if (not (eqb j k) && (is_hardware x.state && struck)) Conflict x
       (λ e. (and_parts (is_hardware x.state) struck (and_parts (not (eqb j k)) (is_hardware x.state && struck) e).1).0))
       0 b.table.heads

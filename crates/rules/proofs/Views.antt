@@ -31,10 +31,10 @@ module _ {W : Type 0} (b : Bench W) (bounds : InBounds b.table) (lists : Sized b
   pub write-room : 32 * k + 32 ≤ length b.writes
   write-room = omega (arith, lists.writes, lt)
 
-  pub read_length : length (read_log b k) ≡ (head_at b k).reads
+  pub read_length : length (read_log b k) ≡ (head_at b k).read_count
   read_length = length-take-le _ (drop (32 * k) b.reads) (let q = length-drop (32 * k) b.reads in omega (arith, read-room, head-bounds.reads))
 
-  pub write-length : length (write_log b k) ≡ (head_at b k).writes
+  pub write-length : length (write_log b k) ≡ (head_at b k).write_count
   write-length = length-take-le _ (drop (32 * k) b.writes) (let q = length-drop (32 * k) b.writes in omega (arith, write-room, head-bounds.writes))
 
   -- the head's own log once it is slots_with, and another's
@@ -69,11 +69,11 @@ module _ {W : Type 0} (b : Bench W) (bounds : InBounds b.table) (lists : Sized b
   -- new slots of the head k leave the others' logs
   pub reads-laid : (log : List (Slot W)) → length log ≤ 32 → Elsewhere (λ _ x. x) (λ o. o) (slots_with k log b.reads) b.writes
   reads-laid log few j x bound ne =
-      ap (λ (r : List (Slot W)). record { head = x; reads = r; writes = log_of j x.writes b.writes }) (other-log b.reads log read-room few j x.reads ne bound.reads)
+      ap (λ (r : List (Slot W)). record { head = x; reads = r; writes = log_of j x.write_count b.writes }) (other-log b.reads log read-room few j x.read_count ne bound.reads)
 
   pub writes-laid : (log : List (Slot W)) → length log ≤ 32 → Elsewhere (λ _ x. x) (λ o. o) b.reads (slots_with k log b.writes)
   writes-laid log few j x bound ne =
-      ap (λ (r : List (Slot W)). record { head = x; reads = log_of j x.reads b.reads; writes = r }) (other-log b.writes log write-room few j x.writes ne bound.writes)
+      ap (λ (r : List (Slot W)). record { head = x; reads = log_of j x.read_count b.reads; writes = r }) (other-log b.writes log write-room few j x.write_count ne bound.writes)
 
   -- conflicts and the lock, seen with the logs
   module _ (reads writes : List (Slot W)) (same : Elsewhere (λ _ x. x) (λ o. o) reads writes) where

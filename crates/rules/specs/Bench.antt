@@ -40,10 +40,10 @@ module _ {W : Type 0} (b : Bench W) (k : ℕ) where
   head_at = slice_index_or b.table.heads k new_head
 
   abbrev pub read_log : List (Slot W)
-  read_log = log_of k head_at.reads b.reads
+  read_log = log_of k head_at.read_count b.reads
 
   abbrev pub write_log : List (Slot W)
-  write_log = log_of k head_at.writes b.writes
+  write_log = log_of k head_at.write_count b.writes
 
   -- the table with these heads, and another record for the head k
   abbrev pub table_with : List Head → Head → Table
@@ -62,7 +62,7 @@ module _ {W : Type 0} (b : Bench W) (k : ℕ) where
   -- another head than k, in hardware, whose logs are hit aborts by conflict
   abbrev pub abort_if_hit : (List (Slot W) → List (Slot W) → Bool) → ℕ → Head → Head
   abort_if_hit hit j x =
-      if not (j == k) && (is_hardware x.state && hit (log_of j x.reads b.reads) (log_of j x.writes b.writes))
+      if not (j == k) && (is_hardware x.state && hit (log_of j x.read_count b.reads) (log_of j x.write_count b.writes))
       then abort Conflict x
       else x
 

@@ -12,11 +12,11 @@ use Rattle.rules.specs.Answers.{call_of}
 
 -- both logs are in their slots, each hardware abort was an attempt, and a head that writes back has a slot left
 pub record HeadBounds (h : Head) : Type 0 where
-  pub reads : h.reads ≤ 32
-  pub writes : h.writes ≤ 32
-  pub aborts : h.aborts + (if is_hardware h.state then 1 else 0) ≤ h.attempts
+  pub reads : h.read_count ≤ 32
+  pub writes : h.write_count ≤ 32
+  pub hardware_aborts : h.hardware_aborts + (if is_hardware h.state then 1 else 0) ≤ h.attempts
   pub attempts : h.attempts ≤ 70_000
-  pub written : (if is_writing_back h.state then h.written + 1 else 0) ≤ h.writes
+  pub written : (if is_writing_back h.state then h.written + 1 else 0) ≤ h.write_count
 
 -- how many heads have a transaction
 abbrev pub active_heads : List Head → ℕ

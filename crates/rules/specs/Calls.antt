@@ -112,7 +112,7 @@ module _ {W : Type 0} (kit : Kit W) (b : Bench W) (k : ℕ) where
 
   -- again: the next attempt
   abbrev pub again_mode : Mode
-  again_mode = next_mode kit.next me.aborts me.state
+  again_mode = next_mode kit.next me.hardware_aborts me.state
 
   abbrev pub admitted_again : Outcome Mode W
   admitted_again = becomes b k (Ok again_mode) (begin again_mode (present_snapshot b.table) me)
@@ -123,7 +123,7 @@ module _ {W : Type 0} (kit : Kit W) (b : Bench W) (k : ℕ) where
       let log = note c w (read_log b k) in
       record {
         answer = Ok w;
-        left = record b { table = table_with b k heads (record h { reads = length log }); reads = slots_with k log b.reads };
+        left = record b { table = table_with b k heads (record h { read_count = length log }); reads = slots_with k log b.reads };
       }
 
   -- in hardware the attempt must fit with that cell's line touched
@@ -167,7 +167,7 @@ module _ {W : Type 0} (kit : Kit W) (b : Bench W) (k : ℕ) where
   abbrev pub admitted_write : ℕ → W → Outcome (Unit {0}) W
   admitted_write c w =
       let log = put c w (write_log b k) in
-      let h = record me { stores = stores_after me.state me.stores; writes = length log } in
+      let h = record me { stores = stores_after me.state me.stores; write_count = length log } in
       if is_hardware me.state then hardware_write c log h else puts_word (Ok tt) log b.table.heads h
 
   -- close: in hardware the write log goes into the cells at once

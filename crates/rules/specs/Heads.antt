@@ -36,25 +36,25 @@ new_head = record {
   state = Idle;
   transaction = 0;
   attempts = 0;
-  aborts = 0;
+  hardware_aborts = 0;
   stores = 0;
-  reads = 0;
-  writes = 0;
+  read_count = 0;
+  write_count = 0;
   written = 0;
   snapshot = record { sequence = 0; commits = 0 };
 }
 
 -- with both logs emptied: their counts become 0
 abbrev pub empty_logs : Head → Head
-empty_logs h = record h { reads = 0; writes = 0 }
+empty_logs h = record h { read_count = 0; write_count = 0 }
 
 -- to abort: the cause is kept and both logs are emptied; an abort in hardware is counted
 abbrev pub abort : Cause → Head → Head
-abort cause h = record (empty_logs h) { state = Aborted cause; aborts = if is_hardware h.state then h.aborts + 1 else h.aborts }
+abort cause h = record (empty_logs h) { state = Aborted cause; hardware_aborts = if is_hardware h.state then h.hardware_aborts + 1 else h.hardware_aborts }
 
 -- a new transaction, the n-th
 abbrev pub with_transaction : ℕ → Head → Head
-with_transaction n h = record h { transaction = n; attempts = 0; aborts = 0 }
+with_transaction n h = record h { transaction = n; attempts = 0; hardware_aborts = 0 }
 
 abbrev pub state_in : Mode → State
 state_in mode.Hardware = Hardware

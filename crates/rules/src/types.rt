@@ -33,13 +33,13 @@ pub struct Head {
     // how often that transaction has been tried
     pub attempts: u32,
     // how many of the attempts aborted in hardware
-    pub aborts: u32,
+    pub hardware_aborts: u32,
     // stores of the hardware attempt
     pub stores: u16,
     // slots of the read log
-    pub reads: u8,
+    pub read_count: u8,
     // slots of the write log
-    pub writes: u8,
+    pub write_count: u8,
     // slots written back
     pub written: u8,
     pub snapshot: Snapshot,

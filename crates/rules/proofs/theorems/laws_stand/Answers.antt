@@ -5,4 +5,4 @@ use Rattle.rules.proofs.theorems.laws_stand.Goals as goal
 pub returns : goal.returns
 returns g c =
     laws-of-runs (kit_of g.W.Word g.B.Board g.P.Policy c.args.board.now c.args.policy.now)
-    (record { exact = g.met.W.Word.exact; ends = g.met.P.Policy.ends c.args.policy.now; some = g.met.P.Policy.some c.args.policy.now })
+    (record { exact = g.met.W.Word.exact; software_from_patience = g.met.P.Policy.software_from_patience c.args.policy.now; at_least_one = g.met.P.Policy.at_least_one c.args.policy.now })
