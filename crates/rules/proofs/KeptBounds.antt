@@ -1,7 +1,7 @@
 -- Every call keeps the table in bounds and the lists as long as they are.
-use Rattle.std.proofs.Common.{◌≡◌, ℕ, ◌+◌, ◌*◌, ◌/◌, ◌%◌, ◌<◌, ◌≤◌, true, false, cond, not, ◌&&◌, ◌||◌, leb, List, [], ◌∷◌, length, take, drop, set, Ok, Err, sym, refl, ap, ◌∙◌, arith, map}
+use Rattle.std.proofs.Common.{◌≡◌, ℕ, ◌+◌, ◌*◌, ◌/◌, ◌%◌, ◌<◌, ◌≤◌, true, false, cond, not, ◌&&◌, ◌||◌, leb, List, [], ◌∷◌, length, take, drop, set, Ok, Err, sym, refl, ap, ◌∙◌, arith, map, subst}
 use Rattle.std.proofs.lemmas.List.Elements.{All-get_or, All-replicate}
-use Rattle.std.proofs.lemmas.List.{length-set, length-take}
+use Rattle.std.proofs.lemmas.List.{length-set}
 use Rattle.std.proofs.lemmas.Bool.{leb-true, leb-false, eqb-false, and_parts}
 use Rattle.parts.specs.declared.types.Cause.{Cause}
 use Rattle.parts.specs.declared.types.Cause.TheVariants.{Capacity, Other, Changed}
@@ -17,7 +17,7 @@ use Rattle.rules.specs.declared.types.Slot.{Slot}
 use Rattle.rules.specs.declared.types.State.{State}
 use Rattle.rules.specs.declared.types.State.TheVariants.{Idle, WritingBack}
 use Rattle.rules.specs.Kit.{Kit}
-use Rattle.rules.specs.Logs.{is_empty, put, note, lacks_room_for, names, put_in, log_of}
+use Rattle.rules.specs.Logs.{is_empty, put, note, lacks_room_for, names, put_in}
 use Rattle.rules.specs.Heads.{new_head, is_idle, is_hardware, is_software, is_writing_back, abort, with_transaction, begin, state_in}
 use Rattle.rules.specs.Bench.{Bench, head_at, table_with, read_log, write_log, present_snapshot, is_odd, lock_out, after_loads, cells_validated}
 use Rattle.rules.specs.Calls.{Outcome, admitted_open, admitted_read, admitted_write, admitted_close, admitted_push, admitted_jolt, admitted_again, admitted_drop, start_write_back, in_range, new_table, again_mode, is_last}
@@ -29,7 +29,7 @@ use Rattle.rules.proofs.Admitted.{Admitted, admitted}
 use Rattle.rules.proofs.Taken.{taken-busy}
 use Rattle.rules.proofs.Turns.{going-plain, running-going}
 use Rattle.rules.proofs.Laid.{length-laid}
-use Rattle.rules.proofs.LogLaws.{word_none, few-put, few-noted}
+use Rattle.rules.proofs.LogLaws.{word_none, few-put, few-noted, length-log}
 use Rattle.rules.proofs.Sweeps.{Swept, swept_none, swept-lock}
 use Rattle.rules.proofs.Cases.{admitted_of, by_call, by_read, by-write, by-close}
 use Rattle.rules.proofs.HeadBounds.{new-bounds, open-bounds, abort-bounds, begin-bounds, idle-bounds, back-bounds, cancel-bounds, resnap-bounds, read-bounds, write-bounds}
@@ -57,9 +57,6 @@ bounds-at-set-up heads cells t =
 begun-busy : (m : Mode) → is_idle (state_in m) ≡ false
 begun-busy mode.Hardware = refl
 begun-busy mode.Software = refl
-
-length-log : {W : Type 0} (k n : ℕ) (slots : List (Slot W)) → length (log_of k n slots) ≤ n
-length-log k n slots = let e = length-take n (drop (32 * k) slots) in omega arith
 
 length-put-in : {W : Type 0} (log : List (Slot W)) (cells : List W) → length (put_in log cells) ≡ length cells
 length-put-in [] cells = refl
@@ -90,7 +87,7 @@ module _ {W : Type 0} (kit : Kit W) (b : Bench W) (s : InBounds b.table) (k : �
   open_kept idle few =
       let n = b.table.opened + 1 in
       let old : busy h ≡ 0 = ap (λ t. cond t 0 1) idle in (
-        bounds-with b.table s k lt heads (swept_none heads) (begin mode.Hardware (present_snapshot b.table) (with_transaction n h)) (open-bounds n (present_snapshot b.table) h)
+        bounds-with b.table s k lt heads (swept_none heads) (begin mode.Hardware (present_snapshot b.table) (with_transaction n h)) (open-bounds h own n (present_snapshot b.table))
             b.table.sequence b.table.commits n (omega arith) (omega arith) (omega arith) (omega arith),
         lengths,
       )
@@ -146,21 +143,23 @@ module _ {W : Type 0} (kit : Kit W) (b : Bench W) (s : InBounds b.table) (k : �
     close-kept software free =
         by-close kit b k (λ (o : Outcome Closing W). Kept b o.left)
         (λ _. (
-          ends (become Idle h) (idle-bounds h own h.written) refl refl b.table.sequence (b.table.commits + 1) (omega arith),
+          ends (become Idle h) (idle-bounds h own h.written own.written) refl refl b.table.sequence (b.table.commits + 1) (omega arith),
           (length-put-in (write_log b k) b.cells, refl, refl),
         ))
-        (ends (become Idle h) (idle-bounds h own h.written) refl refl b.table.sequence b.table.commits (omega arith), lengths)
+        (ends (become Idle h) (idle-bounds h own h.written own.written) refl refl b.table.sequence b.table.commits (omega arith), lengths)
         (λ f some. (starts (software f) some free, lengths)) (λ ys p. (aborted ys p Changed, lengths))
 
-    push_kept : Kept b (admitted_push b k).left
-    push_kept =
+    push_kept : is_writing_back h.state ≡ true → Kept b (admitted_push b k).left
+    push_kept writing =
+        let left : h.written + 1 ≤ h.write_count = subst (λ t. cond t (h.written + 1) 0 ≤ h.write_count) writing own.unfinished in
+        let few : h.written + 1 ≤ 32 = omega (arith, own.writes) in
         let x = wrote (h.written + 1) h in (
           by-test (is_last b k)
               (λ t. InBounds (record b.table {
                 heads = set heads k (become (cond t Idle WritingBack) x);
                 sequence = cond t (b.table.sequence + 1) b.table.sequence;
               }))
-              (λ _. ends (become Idle x) (idle-bounds h own (h.written + 1)) refl refl (b.table.sequence + 1) b.table.commits (omega arith))
+              (λ _. ends (become Idle x) (idle-bounds h own (h.written + 1) few) refl refl (b.table.sequence + 1) b.table.commits (omega arith))
               (λ f. keeps heads (swept_none heads) (become WritingBack x)
               (back-bounds h own (h.written + 1) (omega (arith, leb-false (length (write_log b k)) (h.written + 1) f, length-log k h.write_count b.writes))) refl refl),
           (length-put-in (take 1 (drop h.written (write_log b k))) b.cells, refl, refl),
@@ -192,7 +191,7 @@ module _ {W : Type 0} (kit : Kit W) (b : Bench W) (s : InBounds b.table) (who : 
   granted-kept Close a lt =
       close-kept kit b s k lt (taken-busy {W = W} Close state refl a.taken)
       (λ f. sym (ap (λ t. t || is_software state) f) ∙ a.taken) a.free
-  granted-kept Push a lt = push_kept kit b s k lt (taken-busy {W = W} Push state refl a.taken)
+  granted-kept Push a lt = push_kept kit b s k lt (taken-busy {W = W} Push state refl a.taken) a.taken
   granted-kept Jolt a lt = jolt-kept kit b s k lt (taken-busy {W = W} Jolt state refl a.taken)
   granted-kept Again a lt = again_kept kit b s k lt (taken-busy {W = W} Again state refl a.taken) (leb-false 70_000 (head_at b k).attempts a.attempt)
   granted-kept Drop a lt = drop-kept kit b s k lt (taken-busy {W = W} Drop state refl a.taken)

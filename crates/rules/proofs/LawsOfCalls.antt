@@ -15,23 +15,26 @@ use Rattle.rules.specs.declared.types.Refusal.{Refusal}
 use Rattle.rules.specs.declared.types.Refusal.TheVariants as refuse
 use Rattle.rules.specs.Kit.{Kit}
 use Rattle.rules.specs.Heads.{new_head, is_hardware, is_aborted, abort}
-use Rattle.rules.specs.Bench.{Bench, is_odd, head_at, after_loads, cells_validated, lock_out, holds, holds_same, cells_loaded, write_log}
+use Rattle.rules.specs.Bench.{Bench, is_odd, head_at, after_loads, cells_validated, lock_out, holds, holds_same, cells_loaded, write_log, read_log}
 use Rattle.rules.specs.Refusals.{by_handle, by_number, lengths_match, is_beyond, takes, why_not, waits, lacks_slot, lacks_transaction, lacks_attempt, when, first_found, refusal, refusals}
 use Rattle.rules.specs.Calls.{Outcome}
 use Rattle.rules.specs.Answers.{Answer, with_answer, call_of}
-use Rattle.rules.specs.CallLaws.{RefusalsChangeNothing, AbortsTellTheirCause, WrongListsRefused, may_write, CellsChangeByCommits, OthersOnlyAbort, HandlesCallAsHeads, StaleHandlesRefused, OpenTakesNextNumber, NumbersStay, StrayCells, CallLaws}
+use Rattle.rules.specs.CallLaws.{RefusalsChangeNothing, AbortsTellTheirCause, WrongListsRefused, may_write, CellsChangeByCommits, OthersOnlyAbort, HandlesCallAsHeads, StaleHandlesRefused, OpenTakesNextNumber, NumbersStay, StrayCells, CallLaws, OthersSlotsStay, is_open}
 use Rattle.rules.proofs.Basics.{wrong}
 use Rattle.rules.proofs.Sweeps.{Hit, Swept, swept_none, swept-lock, swept_at, number-set}
 use Rattle.rules.proofs.Cases.{admitted_of, by_call, by_read, by-write, by-close}
 use Rattle.std.proofs.lemmas.List.Elements.{All-nil, All-cons, length_all_zip}
-use Rattle.rules.proofs.Admitted.{admitted}
+use Rattle.rules.proofs.Admitted.{admitted, Admitted}
 use Rattle.rules.specs.declared.types.Slot.{Slot}
 use Rattle.std.proofs.lemmas.Option.{slice_get_past}
 use Rattle.rules.specs.declared.types.State.{State}
 use Rattle.rules.specs.declared.types.State.TheVariants.{Aborted}
 use Rattle.std.specs.List.{AllByRecursion}
-use Rattle.rules.specs.Logs.{put}
+use Rattle.rules.specs.Logs.{put, note, log_of, lacks_room_for}
 use Rattle.rules.proofs.Records.{wrote_more}
+use Rattle.rules.specs.Bounds.{InBounds, HeadBounds}
+use Rattle.rules.proofs.Laid.{log-laid-other}
+use Rattle.rules.proofs.LogLaws.{word_none, few-noted, few-put, length-log}
 
 -- nothing is changed if the answer is a refusal and no abort
 abbrev Stays : {W : Type 0} → Bench W → Answer W × Bench W → Type 0
@@ -275,8 +278,8 @@ module _ {W : Type 0} (kit : Kit W) (b : Bench W) (k : ℕ) where
       → (j : ℕ) → (get_or (set ys k h) j new_head).transaction ≡ (head_at b j).transaction
   number-kept ys p h e j = number-set b.table.heads ys k j h p e
 
-  numbers-kept : (call : Call ℕ W) → (call ≡ Open → ⊥) → SameNumbers b (admitted_of kit b k call).1
-  numbers-kept Open ne = absurd (ne refl)
+  numbers-kept : (call : Call ℕ W) → (is_ok (admitted_of kit b k call).0 && is_open call) ≡ false → SameNumbers b (admitted_of kit b k call).1
+  numbers-kept Open ne = wrong (sym ne)
   numbers-kept (Read c) ne =
       by_read kit b k c (λ (o : Outcome W W). SameNumbers b o.left) (λ w. (λ j. refl, refl)) (λ j. refl, refl)
       (λ _ ys p s w. (number-kept ys p _ refl, refl)) (λ ys p cause. (number-kept ys p _ refl, refl))
@@ -291,8 +294,41 @@ module _ {W : Type 0} (kit : Kit W) (b : Bench W) (k : ℕ) where
   numbers-kept call ne = (number-kept b.table.heads (swept_none b.table.heads) _ refl, refl)
 
 pub numbers-stay : {W : Type 0} (kit : Kit W) → NumbersStay kit
-numbers-stay {W} kit b who call ne =
-    by_call kit b who call (λ (r : Answer W × Bench W). SameNumbers b r.1) (λ e _. (λ j. refl, refl)) (λ _. numbers-kept kit b who.head call ne)
+numbers-stay {W} kit b who call =
+    by_call kit b who call (λ (r : Answer W × Bench W). (is_ok r.0 && is_open call) ≡ false → SameNumbers b r.1) (λ e _ _. (λ j. refl, refl)) (λ _. numbers-kept kit b who.head call)
+
+-- the slots of the head j are as before
+abbrev SameSlots : {W : Type 0} → ℕ → Bench W → Bench W → Type 0
+SameSlots j b o = (log_of j 32 o.reads ≡ log_of j 32 b.reads) × (log_of j 32 o.writes ≡ log_of j 32 b.writes)
+
+module _ {W : Type 0} (kit : Kit W) (b : Bench W) (bounds : InBounds b.table) (who : Caller) (j : ℕ) (ne : j ≡ who.head → ⊥) where
+  abbrev k : ℕ
+  k = who.head
+
+  own-bounds : k < b.table.head_count → HeadBounds (head_at b k)
+  own-bounds lt = bounds.heads k new_head (omega (arith, lt, bounds.few_heads, bounds.eight))
+
+  slots-kept : (call : Call ℕ W) → Admitted b who call → SameSlots j b (admitted_of kit b k call).1
+  slots-kept (Read c) a =
+      by_read kit b k c (λ (o : Outcome W W). SameSlots j b o.left) (λ w. (refl, refl)) (refl, refl)
+      (λ e ys p s w.
+      let log = note c w (read_log b k) in
+      let free : lacks_room_for c (read_log b k) ≡ false = sym (ap (λ t. not t && lacks_room_for c (read_log b k)) (word_none c (write_log b k) e)) ∙ a.slot in
+      let few = few-noted c w (read_log b k) (omega (arith, length-log k (head_at b k).read_count b.reads, (own-bounds a.head).reads)) free in
+      (log-laid-other k log b.reads few (omega (arith, a.head, a.lists.reads)) j 32 ne (omega arith), refl))
+      (λ ys p cause. (refl, refl))
+  slots-kept (Write c w) a =
+      let log = put c w (write_log b k) in
+      let few = few-put c w (write_log b k) (omega (arith, length-log k (head_at b k).write_count b.writes, (own-bounds a.head).writes)) a.slot in
+      let stays = log-laid-other k log b.writes few (omega (arith, a.head, a.lists.writes)) j 32 ne (omega arith) in
+      by-write kit b k c w (λ (o : Outcome (Unit {0}) W). SameSlots j b o.left) (λ ys p. (refl, stays)) (refl, stays)
+  slots-kept Close a =
+      by-close kit b k (λ (o : Outcome Closing W). SameSlots j b o.left) (λ _. (refl, refl)) (refl, refl) (λ _ _. (refl, refl)) (λ ys p. (refl, refl))
+  slots-kept call a = (refl, refl)
+
+pub others-slots-stay : {W : Type 0} (kit : Kit W) → OthersSlotsStay kit
+others-slots-stay {W} kit b who call j bounds ne =
+    by_call kit b who call (λ (r : Answer W × Bench W). SameSlots j b r.1) (λ e _. (refl, refl)) (λ none. slots-kept kit b bounds who j ne call (admitted b who call none))
 
 pub stray-cells : {W : Type 0} (kit : Kit W) → StrayCells kit
 stray-cells {W} kit = record { differs = differs; not_loaded = inside; not_written = λ s cells far. set_past cells s.cell s.word far }
@@ -316,6 +352,7 @@ call-laws kit = record {
   lists = wrong-lists-refused kit;
   cells = cells-change-by-commits kit;
   others = others-only-abort kit;
+  slots = others-slots-stay kit;
   handles = handles-call-as-heads kit;
   stale = stale-handles-refused kit;
   opens = open-takes-next-number kit;

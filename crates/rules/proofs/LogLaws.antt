@@ -1,12 +1,12 @@
 -- Laws of logs: what a write or a read leaves in one, and what putting one into the cells does.
 use Rattle.std.proofs.lemmas.List.Folds.{list_any-append}
-use Rattle.std.proofs.Common.{◌≡◌, ℕ, suc, ◌+◌, ◌≤◌, true, false, cond, not, ◌&&◌, ◌||◌, eqb, leb, List, [], ◌∷◌, ◌++◌, length, set, Some, None, Option, sym, refl, ap, ◌∙◌, subst, ⊎_elim, arith, All}
+use Rattle.std.proofs.Common.{◌≡◌, ℕ, suc, ◌+◌, ◌≤◌, true, false, cond, not, ◌&&◌, ◌||◌, eqb, leb, List, [], ◌∷◌, ◌++◌, length, set, Some, None, Option, sym, refl, ap, ◌∙◌, subst, ⊎_elim, arith, All, ◌*◌, drop}
 use Rattle.std.specs.List.{slice_get, list_all}
 use Rattle.std.proofs.lemmas.Bool.{eqb-true, eqb-false, or_parts, or_cases, and_parts, and_from, leb-false, ne_eqb}
-use Rattle.std.proofs.lemmas.List.{set-set, set_comm, length-append, reverse-append}
+use Rattle.std.proofs.lemmas.List.{set-set, set_comm, length-append, reverse-append, length-take}
 use Rattle.std.proofs.lemmas.List.Elements.{All-append, All-nil, All-cons, All-head, All-tail}
 use Rattle.rules.specs.declared.types.Slot.{Slot}
-use Rattle.rules.specs.Logs.{slot, is_empty, names, word_for, put, note, lacks_room_for, put_in}
+use Rattle.rules.specs.Logs.{slot, is_empty, names, word_for, put, note, lacks_room_for, put_in, log_of}
 use Rattle.rules.specs.Kit.{Kit}
 use Rattle.rules.proofs.Lawful.{Lawful}
 use Rattle.rules.specs.Bench.{Bench, holds, holds_same}
@@ -19,6 +19,9 @@ use Rattle.rules.specs.History.{last_written}
 abbrev pub Distinct : {W : Type 0} → List (Slot W) → Type 0
 Distinct [] = Unit {0}
 Distinct (s ∷ log) = (names s.cell log ≡ false) × Distinct log
+
+pub length-log : {W : Type 0} (k n : ℕ) (slots : List (Slot W)) → length (log_of k n slots) ≤ n
+length-log k n slots = let e = length-take n (drop (32 * k) slots) in omega arith
 
 module _ {W : Type 0} where
   pub put-in-append : (a b : List (Slot W)) (xs : List W) → put_in (a ++ b) xs ≡ put_in b (put_in a xs)

@@ -10,13 +10,15 @@ use Rattle.rules.specs.Bench.{Bench}
 use Rattle.rules.specs.Calls.{set_up}
 use Rattle.rules.specs.Answers.{call_of}
 
--- both logs are in their slots, each hardware abort was an attempt, and a head that writes back has a slot left
+-- both logs are in their slots, each hardware abort was an attempt, and a head that writes back has a slot left to push
 pub record HeadBounds (h : Head) : Type 0 where
   pub reads : h.read_count ≤ 32
   pub writes : h.write_count ≤ 32
   pub hardware_aborts : h.hardware_aborts + (if is_hardware h.state then 1 else 0) ≤ h.attempts
   pub attempts : h.attempts ≤ 70_000
-  pub written : (if is_writing_back h.state then h.written + 1 else 0) ≤ h.write_count
+  pub stores : h.stores ≤ 65_535
+  pub written : h.written ≤ 32
+  pub unfinished : (if is_writing_back h.state then h.written + 1 else 0) ≤ h.write_count
 
 -- how many heads have a transaction
 abbrev pub active_heads : List Head → ℕ

@@ -11,7 +11,7 @@ use Rattle.rules.specs.declared.types.Slot.{Slot}
 use Rattle.rules.specs.declared.types.State.TheVariants.{Aborted}
 use Rattle.rules.specs.Kit.{Kit}
 use Rattle.rules.specs.Heads.{is_hardware, is_aborted, abort}
-use Rattle.rules.specs.Logs.{put_in}
+use Rattle.rules.specs.Logs.{put_in, log_of}
 use Rattle.rules.specs.Bench.{Bench, head_at, holds, cells_loaded}
 use Rattle.rules.specs.Bounds.{InBounds}
 use Rattle.rules.specs.Refusals.{by_handle, by_number, lengths_match}
@@ -22,6 +22,10 @@ abbrev pub may_write : {W : Type 0} → Bench W → ℕ → Call ℕ W → Bool
 may_write b k Close = is_hardware (head_at b k).state
 may_write b k Push = true
 may_write b k call = false
+
+abbrev pub is_open : {W : Type 0} → Call ℕ W → Bool
+is_open Open = true
+is_open call = false
 
 module _ {W : Type 0} (kit : Kit W) where
   -- what a call answers, and what it leaves
@@ -53,12 +57,18 @@ module _ {W : Type 0} (kit : Kit W) where
       (b : Bench W) (who : Caller) (call : Call ℕ W) → (is_ok (answer b who call) && may_write b who.head call) ≡ false
       → (left b who call).cells ≡ b.cells
 
-  -- a call changes another head only by aborting it in hardware
+  -- a call changes another head's record only by aborting it in hardware
   abbrev pub OthersOnlyAbort : Type 0
   OthersOnlyAbort =
       (b : Bench W) (who : Caller) (call : Call ℕ W) (j : ℕ) → j ≢ who.head
       → (head_at (left b who call) j ≡ head_at b j)
       ⊎ ((is_hardware (head_at b j).state ≡ true) × ((cause : Cause) × (head_at (left b who call) j ≡ abort cause (head_at b j))))
+
+  -- it writes into no slots of another head
+  abbrev pub OthersSlotsStay : Type 0
+  OthersSlotsStay =
+      (b : Bench W) (who : Caller) (call : Call ℕ W) (j : ℕ) → InBounds b.table → j ≢ who.head
+      → (log_of j 32 (left b who call).reads ≡ log_of j 32 b.reads) × (log_of j 32 (left b who call).writes ≡ log_of j 32 b.writes)
 
   -- a handle calls as its head does, as long as its transaction is its head's
   abbrev pub HandlesCallAsHeads : Type 0
@@ -77,13 +87,14 @@ module _ {W : Type 0} (kit : Kit W) where
       (b : Bench W) (who : Caller) (g : Granted W) → InBounds b.table → answer b who Open ≡ Ok g
       → ((head_at (left b who Open) who.head).transaction ≡ b.table.opened + 1) × ((left b who Open).table.opened ≡ b.table.opened + 1)
 
-  -- no other call changes a head's number, or how many were given
+  -- nothing but a granted open changes a head's number, or how many were given
   abbrev pub NumbersStay : Type 0
   NumbersStay =
-      (b : Bench W) (who : Caller) (call : Call ℕ W) → call ≢ Open
+      (b : Bench W) (who : Caller) (call : Call ℕ W) → (is_ok (answer b who call) && is_open call) ≡ false
       → ((j : ℕ) → (head_at (left b who call) j).transaction ≡ (head_at b j).transaction) × ((left b who call).table.opened ≡ b.table.opened)
 
-  -- a slot may name a cell that the rig does not have: no word is the same as that cell's, it is not loaded, and nothing is written for it
+  -- a slot may name a cell that the rig does not have. Validation takes it as different and does not load it; putting a
+  -- log into the cells, as a close and a push do, writes nothing for it
   pub record StrayCells : Type 0 where
     pub differs : (b : Bench W) (k : ℕ) (s : Slot W) → length b.cells ≤ s.cell → holds kit b k s ≡ false
     pub not_loaded : (b : Bench W) (k : ℕ) (log : List (Slot W)) → All (λ c. c < length b.cells) (cells_loaded kit b k log)
@@ -95,6 +106,7 @@ module _ {W : Type 0} (kit : Kit W) where
     pub lists : WrongListsRefused
     pub cells : CellsChangeByCommits
     pub others : OthersOnlyAbort
+    pub slots : OthersSlotsStay
     pub handles : HandlesCallAsHeads
     pub stale : StaleHandlesRefused
     pub opens : OpenTakesNextNumber
