@@ -1,4 +1,4 @@
--- How large a rig's numbers get, whatever the lists hold: no number ever runs over.
+-- How large the numbers get that a rig counts, whatever the lists hold: none of them ever runs over.
 use Rattle.std.specs.Prelude.{◌≡◌, ℕ, ◌+◌, ◌/◌, ◌≤◌, List, [], ◌∷◌, length, Ok, if◌then◌else◌, All}
 use Rattle.parts.specs.declared.calls.Call.{Call}
 use Rattle.rules.specs.declared.types.Caller.{Caller}
@@ -36,8 +36,10 @@ pub record InBounds (t : Table) : Type 0 where
   pub used : active_heads t.heads + (t.commits + t.sequence / 2) ≤ t.opened
 
 -- the lists keep their lengths
-abbrev pub SameLengths : {W : Type 0} → Bench W → Bench W → Type 0
-SameLengths a b = (length b.cells ≡ length a.cells) × (length b.reads ≡ length a.reads) × (length b.writes ≡ length a.writes)
+pub record SameLengths {W : Type 0} (old new : Bench W) : Type 0 where
+  pub cells : length new.cells ≡ length old.cells
+  pub reads : length new.reads ≡ length old.reads
+  pub writes : length new.writes ≡ length old.writes
 
 abbrev pub BoundsAtSetUp : Type 0
 BoundsAtSetUp = (heads cells : ℕ) (t : Table) → set_up heads cells ≡ Ok t → InBounds t

@@ -1,4 +1,5 @@
--- Runs computed by the rule book, with amounts and the plain policy: the worked examples of docs/RULES.md.
+-- Worked examples, computed by the rule book: amounts, on either board under a margin, with the plain policy. The first
+-- two stand in docs/RULES.md.
 use Rattle.std.specs.Prelude.{◌≡◌, ℕ, ◌*◌, List, [], ◌∷◌, ◌++◌, map, replicate, ℤ, pos, Some, None, Ok, Err, Option}
 use Rattle.parts.specs.Words.{same_amount}
 use Rattle.parts.specs.Boards.{stores_line, stores_fit, lines_line, lines_fit, with_margin}
@@ -56,14 +57,14 @@ handle_row k t call n v = record { made = record { lent = lent.Right; caller = b
 abbrev pub short_row : ℕ → Call ℕ ℤ → ℕ → Option ℕ → Row
 short_row k call n v = record { made = record { lent = lent.Wrong; caller = by_number k; call = call }; number = n; value = v }
 
+abbrev pub calls_of : List Row → List (MadeCall ℤ)
+calls_of rows = map (λ (r : Row). r.made) rows
+
 -- the rule book answers the calls of these rows, from this rig on, with their numbers and values, and leaves these amounts
-abbrev pub Sheet : Kit ℤ → Bench ℤ → List Row → List ℕ → Type 0
-Sheet kit b rows amounts =
-    let calls = map (λ (r : Row). r.made) rows in
-    let answers = answers_of kit b calls in
-    (map answer_number answers ≡ map (λ (r : Row). r.number) rows)
-    × (map value_shown answers ≡ map (λ (r : Row). as_amount r.value) rows)
-    × ((left_by kit b calls).cells ≡ map pos amounts)
+pub record Sheet (kit : Kit ℤ) (b : Bench ℤ) (rows : List Row) (amounts : List ℕ) : Type 0 where
+  pub numbers : map answer_number (answers_of kit b (calls_of rows)) ≡ map (λ (r : Row). r.number) rows
+  pub values : map value_shown (answers_of kit b (calls_of rows)) ≡ map (λ (r : Row). as_amount r.value) rows
+  pub cells : (left_by kit b (calls_of rows)).cells ≡ map pos amounts
 
 -- the plain policy sends a head to software after three interrupts
 abbrev pub to_software : ℕ → List Row

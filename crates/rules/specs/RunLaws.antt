@@ -1,4 +1,5 @@
--- The three laws of a run. They speak of calls, answers and cells alone, so every rig that answers alike has them.
+-- The three laws of a run. They speak of calls, answers and cells alone, so every rig that answers alike and leaves the
+-- same cells has them.
 use Rattle.std.specs.Prelude.{◌≡◌, ℕ, ◌+◌, ◌≤◌, false, List, length, take, Some, Ok, All}
 use Rattle.std.specs.List.{slice_get}
 use Rattle.rules.specs.declared.types.MadeCall.{MadeCall}
@@ -50,7 +51,8 @@ pub record ThreeLaws {W : Type 0} (patience : ℕ) (cells now : List W) (l : His
 abbrev pub LawsHold : {W : Type 0} → ℕ → List W → List W → List (MadeCall W) → List (Answer W) → Type 0
 LawsHold patience cells now calls answers = ThreeLaws patience cells now (history_of nothing_yet calls answers)
 
--- the three laws, of every list of calls on every rig that is set up, whatever lists it is lent
+-- the three laws, of every list of calls on every rig that is set up, whatever the lists hold then, as long as nobody
+-- else writes them between two calls
 abbrev pub LawsOfRuns : {W : Type 0} → Kit W → Type 0
 LawsOfRuns {W} kit =
     (heads cells : ℕ) (b : Bench W) (calls : List (MadeCall W)) → set_up heads cells ≡ Ok b.table

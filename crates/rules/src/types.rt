@@ -23,7 +23,7 @@ pub struct Snapshot {
     pub commits: u32,
 }
 
-// What the rig keeps of a head: plain numbers, each of which the rules keep whatever the state.
+// What the rig keeps of a head: plain numbers, each of which stands whatever the state.
 // Its logs stand in the slot lists, which the caller lends, and only their counts here.
 #[derive(Clone, Copy)]
 pub struct Head {
@@ -114,7 +114,7 @@ pub enum Refusal {
     Full,
     OutOfTransactions,
     OutOfAttempts,
-    // a rig with so many heads or cells is not set up
+    // a rig with no head or cell, or with so many, is not set up
     OutOfRange,
     // the handle's transaction is not its head's
     StaleHandle,
