@@ -83,7 +83,7 @@ module _ {W : Type 0} (kit : Kit W) (b : Bench W) (k : ℕ) where
   abbrev pub holds : Slot W → Bool
   holds s = holds_same kit.same s.word (slice_get b.cells s.cell)
 
-  -- the cells that validation of a log loads, slot by slot: it ends at the first word that differs, and loads that cell if there is one
+  -- the cells that validation of a log loads, slot by slot, up to the first whose word differs; that one too, if it is there
   abbrev pub cells_loaded : List (Slot W) → List ℕ
   cells_loaded [] = []
   cells_loaded (s ∷ log) =

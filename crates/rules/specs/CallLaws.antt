@@ -49,7 +49,8 @@ module _ {W : Type 0} (kit : Kit W) where
 
   -- a call with a list of wrong length is refused with 2, whatever else is wrong with it
   abbrev pub WrongListsRefused : Type 0
-  WrongListsRefused = (b : Bench W) (who : Caller) (call : Call ℕ W) → lengths_match b ≡ false → call_of kit b who call ≡ (Err refuse.Lists, b)
+  WrongListsRefused =
+      (b : Bench W) (who : Caller) (call : Call ℕ W) → lengths_match b ≡ false → call_of kit b who call ≡ (Err refuse.Lists, b)
 
   -- the cells change only in a granted hardware close or push
   abbrev pub CellsChangeByCommits : Type 0
@@ -62,18 +63,21 @@ module _ {W : Type 0} (kit : Kit W) where
   OthersOnlyAbort =
       (b : Bench W) (who : Caller) (call : Call ℕ W) (j : ℕ) → j ≢ who.head
       → (head_at (left b who call) j ≡ head_at b j)
-      ⊎ ((is_hardware (head_at b j).state ≡ true) × ((cause : Cause) × (head_at (left b who call) j ≡ abort cause (head_at b j))))
+      ⊎ ((is_hardware (head_at b j).state ≡ true)
+      × ((cause : Cause) × (head_at (left b who call) j ≡ abort cause (head_at b j))))
 
   -- it writes into no slots of another head
   abbrev pub OthersSlotsStay : Type 0
   OthersSlotsStay =
       (b : Bench W) (who : Caller) (call : Call ℕ W) (j : ℕ) → InBounds b.table → j ≢ who.head
-      → (log_of j 32 (left b who call).reads ≡ log_of j 32 b.reads) × (log_of j 32 (left b who call).writes ≡ log_of j 32 b.writes)
+      → (log_of j 32 (left b who call).reads ≡ log_of j 32 b.reads)
+      × (log_of j 32 (left b who call).writes ≡ log_of j 32 b.writes)
 
   -- a handle calls as its head does, as long as its transaction is its head's
   abbrev pub HandlesCallAsHeads : Type 0
   HandlesCallAsHeads =
-      (b : Bench W) (k n : ℕ) (call : Call ℕ W) → n ≡ (head_at b k).transaction → call_of kit b (by_handle k n) call ≡ call_of kit b (by_number k) call
+      (b : Bench W) (k n : ℕ) (call : Call ℕ W) → n ≡ (head_at b k).transaction
+      → call_of kit b (by_handle k n) call ≡ call_of kit b (by_number k) call
 
   -- else it is refused with 12, where there is such a head
   abbrev pub StaleHandlesRefused : Type 0
@@ -85,13 +89,15 @@ module _ {W : Type 0} (kit : Kit W) where
   abbrev pub OpenTakesNextNumber : Type 0
   OpenTakesNextNumber =
       (b : Bench W) (who : Caller) (g : Granted W) → InBounds b.table → answer b who Open ≡ Ok g
-      → ((head_at (left b who Open) who.head).transaction ≡ b.table.opened + 1) × ((left b who Open).table.opened ≡ b.table.opened + 1)
+      → ((head_at (left b who Open) who.head).transaction ≡ b.table.opened + 1)
+      × ((left b who Open).table.opened ≡ b.table.opened + 1)
 
   -- nothing but a granted open changes a head's number, or how many were given
   abbrev pub NumbersStay : Type 0
   NumbersStay =
       (b : Bench W) (who : Caller) (call : Call ℕ W) → (is_ok (answer b who call) && is_open call) ≡ false
-      → ((j : ℕ) → (head_at (left b who call) j).transaction ≡ (head_at b j).transaction) × ((left b who call).table.opened ≡ b.table.opened)
+      → ((j : ℕ) → (head_at (left b who call) j).transaction ≡ (head_at b j).transaction)
+      × ((left b who call).table.opened ≡ b.table.opened)
 
   -- a slot may name a cell that the rig does not have. Validation takes it as different and does not load it; putting a
   -- log into the cells, as a close and a push do, writes nothing for it

@@ -123,7 +123,10 @@ module _ {W : Type 0} (kit : Kit W) (b : Bench W) (k : ℕ) where
       let log = note c w (read_log b k) in
       record {
         answer = Ok w;
-        left = record b { table = table_with b k heads (record h { read_count = length log }); reads = slots_with k log b.reads };
+        left = record b {
+          table = table_with b k heads (record h { read_count = length log });
+          reads = slots_with k log b.reads;
+        };
       }
 
   -- in hardware the attempt must fit with that cell's line touched
@@ -197,7 +200,10 @@ module _ {W : Type 0} (kit : Kit W) (b : Bench W) (k : ℕ) where
   admitted_close =
       if is_hardware me.state
       then hardware_close
-      else (if is_empty (write_log b k) then becomes b k (Ok (closing.Complete me.attempts)) (record me { state = Idle }) else software_close)
+      else
+      (if is_empty (write_log b k)
+      then becomes b k (Ok (closing.Complete me.attempts)) (record me { state = Idle })
+      else software_close)
 
 -- the eight calls, each by a caller; these ask neither board nor policy, and test no word
 module _ {W : Type 0} (b : Bench W) (who : Caller) where

@@ -129,7 +129,8 @@ SoftwareSheet =
     )
     (6 ∷ 9 ∷ [])
 
--- what loads and validation do to other heads: nothing while the snapshot is current; else each cell is loaded, up to the first whose word differs
+-- what loads and validation do to other heads: nothing is validated while the snapshot is current; else each cell is
+-- loaded, up to the first whose word differs
 abbrev pub ValidationSheet : Type 0
 ValidationSheet =
     Sheet on_lines (rig_with 3 9 (replicate 9 0))
@@ -182,10 +183,18 @@ abbrev pub StoresSheet : Type 0
 StoresSheet =
     let store = Write 0 (pos 1) in
     Sheet on_stores (rig_with 1 1 (0 ∷ []))
-    (row 0 Open 0 (Some 1) ∷ (replicate 28 (row 0 store 0 None) ++ (row 0 store 6 (Some 2) ∷ row 0 Again 0 (Some 1) ∷ row 0 store 0 None ∷ [])))
+    (
+    row 0 Open 0 (Some 1) ∷
+    (replicate 28 (row 0 store 0 None) ++ (
+    row 0 store 6 (Some 2) ∷
+    row 0 Again 0 (Some 1) ∷
+    row 0 store 0 None ∷ []
+    ))
+    )
     (0 ∷ [])
 
--- while a head is writing back it takes only push; others wait but for what they wrote themselves, writes, and a close without writes
+-- while a head is writing back it takes only push; of the others, reads of own writes, writes, and closes without writes
+-- do not wait
 abbrev pub LockSheet : Type 0
 LockSheet =
     Sheet on_lines (rig_with 3 2 (1 ∷ 2 ∷ []))

@@ -50,7 +50,10 @@ empty_logs h = record h { read_count = 0; write_count = 0 }
 
 -- to abort: the cause is kept and both logs are emptied; an abort in hardware is counted
 abbrev pub abort : Cause → Head → Head
-abort cause h = record (empty_logs h) { state = Aborted cause; hardware_aborts = if is_hardware h.state then h.hardware_aborts + 1 else h.hardware_aborts }
+abort cause h = record (empty_logs h) {
+  state = Aborted cause;
+  hardware_aborts = if is_hardware h.state then h.hardware_aborts + 1 else h.hardware_aborts;
+}
 
 -- a new transaction, the n-th
 abbrev pub with_transaction : ℕ → Head → Head
@@ -67,8 +70,12 @@ snapshot_in mode.Software present old = present
 
 -- to begin an attempt: both logs are emptied
 abbrev pub begin : Mode → Snapshot → Head → Head
-begin m present h =
-    record (empty_logs h) { state = state_in m; stores = 0; attempts = h.attempts + 1; snapshot = snapshot_in m present h.snapshot }
+begin m present h = record (empty_logs h) {
+  state = state_in m;
+  attempts = h.attempts + 1;
+  stores = 0;
+  snapshot = snapshot_in m present h.snapshot;
+}
 
 -- how the next attempt runs: as the policy says after a hardware attempt, and in software after a software one,
 -- which only a change aborts

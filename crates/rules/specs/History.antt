@@ -53,9 +53,13 @@ pub record History (W : Type 0) : Type 0 where
   pub past : List (Attempt W)
   pub ended : List EndedTransaction
 
+-- an attempt that begins after so many closes
+abbrev pub new_attempt : {W : Type 0} → ℕ → Attempt W
+new_attempt n = record { began = n; reads = []; own_reads = []; writes = []; closed = None }
+
 -- before any call
 abbrev pub blank_page : {W : Type 0} → Page W
-blank_page = record { attempt = record { began = 0; reads = []; own_reads = []; writes = []; closed = None }; since = 0; attempts = 0; writing_back = false }
+blank_page = record { attempt = new_attempt 0; since = 0; attempts = 0; writing_back = false }
 
 abbrev pub nothing_yet : {W : Type 0} → History W
 nothing_yet = record { closes = []; pages = λ _. blank_page; past = []; ended = [] }
@@ -87,13 +91,14 @@ module _ {W : Type 0} (l : History W) (k : ℕ) where
   -- an attempt of the head k has begun
   abbrev with_attempt : ℕ → ℕ → History W
   with_attempt since attempts =
-      let attempt : Attempt W = record { began = count; reads = []; own_reads = []; writes = []; closed = None } in
-      record (with_page (record { attempt = attempt; since = since; attempts = attempts; writing_back = false })) { past = page.attempt ∷ l.past }
+      let new : Page W = record { attempt = new_attempt count; since = since; attempts = attempts; writing_back = false } in
+      record (with_page new) { past = page.attempt ∷ l.past }
 
   -- its transaction has ended
   abbrev with_end : Option ℕ → History W → History W
   with_end told h =
-      record h { ended = record { head = k; since = page.since; until = count; attempts = page.attempts; told = told } ∷ l.ended }
+      let end : EndedTransaction = record { head = k; since = page.since; until = count; attempts = page.attempts; told = told } in
+      record h { ended = end ∷ l.ended }
 
   -- a granted read: the word is one from the cells if no earlier granted write of the attempt names the cell
   abbrev attempt_read : ℕ → W → Attempt W
@@ -116,14 +121,15 @@ module _ {W : Type 0} (l : History W) (k : ℕ) where
   abbrev after_close : Closing → History W
   after_close how =
       let a = page.attempt in
-      let closed = with_page (record page { attempt = record a { closed = Some count }; writing_back = starts_write_back how }) in
-      with_end (Some (attempts_told how)) (record closed { closes = l.closes ++ (record { head = k; writes = a.writes } ∷ []) })
+      let new = record page { attempt = record a { closed = Some count }; writing_back = starts_write_back how } in
+      let close : GrantedClose W = record { head = k; writes = a.writes } in
+      with_end (Some (attempts_told how)) (record (with_page new) { closes = l.closes ++ (close ∷ []) })
 
   -- a push that leaves so many slots
   abbrev after_push : ℕ → History W
   after_push n = if n == 0 then with_page (record page { writing_back = false }) else l
 
-  -- the history after one more call of the head k: by what a granted call gave; a refusal leaves it as it is, and so does a jolt
+  -- the history after one more call of the head k, by what a granted call gave; a refusal leaves it as it is
   abbrev pub history_after : Call ℕ W → Answer W → History W
   history_after Open (Ok g) = with_attempt count 1
   history_after (Read c) (Ok (granted.Word w)) = after_read c w

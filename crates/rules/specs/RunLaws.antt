@@ -35,7 +35,8 @@ module _ {W : Type 0} (closes : List (GrantedClose W)) where
   -- a transaction that has ended made no more, and its granted close told how many
   abbrev pub Bounded : ℕ → EndedTransaction → Type 0
   Bounded patience e =
-      (e.attempts ≤ most_attempts patience (closes_of_others closes e.head e.since e.until)) × ((n : ℕ) → e.told ≡ Some n → n ≡ e.attempts)
+      (e.attempts ≤ most_attempts patience (closes_of_others closes e.head e.since e.until))
+      × ((n : ℕ) → e.told ≡ Some n → n ≡ e.attempts)
 
 pub record ThreeLaws {W : Type 0} (patience : ℕ) (cells now : List W) (l : History W) : Type 0 where
   -- while no head is writing back, the cells are those at set-up with the writes of all closes put in, in order
@@ -45,7 +46,8 @@ pub record ThreeLaws {W : Type 0} (patience : ℕ) (cells now : List W) (l : His
   pub explained_now : (k : ℕ) → Explained l.closes cells (l.pages k).attempt
   -- every transaction is bounded: those that have ended, and each head's present one as far as it has come
   pub bounded : All (Bounded l.closes patience) l.ended
-  pub bounded_now : (k : ℕ) → (l.pages k).attempts ≤ most_attempts patience (closes_of_others l.closes k (l.pages k).since (length l.closes))
+  pub bounded_now : (k : ℕ) →
+      (l.pages k).attempts ≤ most_attempts patience (closes_of_others l.closes k (l.pages k).since (length l.closes))
 
 -- the laws hold of these calls and answers, from these cells to those
 abbrev pub LawsHold : {W : Type 0} → ℕ → List W → List W → List (MadeCall W) → List (Answer W) → Type 0
