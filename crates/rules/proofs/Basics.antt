@@ -1,9 +1,10 @@
 -- What the rules' proof needs of lists, tests and options.
-use Rattle.std.proofs.Common.{◌≡◌, ℕ, zero, suc, Bool, true, false, eqb, ◌⊎◌, List, [], ◌∷◌, ◌++◌, map, set, Some, None, Option, sym, refl, ap, ◌∙◌, subst, inl, inr, ⊎_elim, All, get_or}
+use Rattle.std.proofs.Common.{◌≡◌, ℕ, zero, suc, Bool, true, false, eqb, ◌⊎◌, List, [], ◌∷◌, ◌++◌, map, set, Some, None, Option, sym, refl, ap, ◌∙◌, subst, inl, inr, ⊎_elim, All, get_or, ◌<◌, length, arith}
 use Rattle.std.specs.List.{slice_get, list_any}
 use Rattle.std.specs.Option.{option_map}
 use Rattle.std.proofs.lemmas.Bool.{cases_eq, or_parts, eqb-false, ne_eqb}
 use Rattle.std.proofs.lemmas.Option.{slice_get-map}
+use Rattle.rules.specs.Logs.{is_empty}
 use Rattle.std.proofs.lemmas.List.Elements.{All-nil, All-cons, All-head, All-tail}
 
 -- a property of what a test or an option decides
@@ -17,6 +18,10 @@ by-option (Some x) P p q = q x refl
 
 pub wrong : {X : Type 0} → false ≡ true → X
 wrong e = cc
+
+pub some-length : {X : Type 0} (xs : List X) → is_empty xs ≡ false → 0 < length xs
+some-length [] e = wrong (sym e)
+some-length (x ∷ xs) e = omega arith
 
 pub eqb-flip : (a b : ℕ) → eqb a b ≡ false → eqb b a ≡ false
 eqb-flip a b e = ne_eqb b a (λ q. eqb-false a b e (sym q))

@@ -25,7 +25,7 @@ use Rattle.rules.specs.Calls.{Outcome, admitted_open, admitted_read, admitted_wr
 use Rattle.rules.specs.Answers.{Answer}
 use Rattle.rules.specs.Bounds.{HeadBounds, InBounds, SameLengths, BoundsAtSetUp, BoundsKept}
 use Rattle.rules.proofs.Records.{become, wrote, resnap, read_more, wrote_more, cancel}
-use Rattle.rules.proofs.Basics.{by-test, wrong}
+use Rattle.rules.proofs.Basics.{by-test, some-length}
 use Rattle.rules.proofs.Admitted.{Admitted, admitted}
 use Rattle.rules.proofs.Taken.{taken-busy}
 use Rattle.rules.proofs.Turns.{going-plain, running-going}
@@ -62,10 +62,6 @@ begun-busy mode.Software = refl
 length-put-in : {W : Type 0} (log : List (Slot W)) (cells : List W) → length (put_in log cells) ≡ length cells
 length-put-in [] cells = refl
 length-put-in (s ∷ log) cells = length-put-in log (set cells s.cell s.word) ∙ length-set cells s.cell s.word
-
-some-length : {X : Type 0} (xs : List X) → is_empty xs ≡ false → 0 < length xs
-some-length [] e = wrong (sym e)
-some-length (x ∷ xs) e = omega arith
 
 -- in bounds, with lists as long as before
 abbrev Kept : {W : Type 0} → Bench W → Bench W → Type 0

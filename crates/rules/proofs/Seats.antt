@@ -31,6 +31,10 @@ rig_of t heads cells = record { heads = heads; sequence = t.sequence; commits = 
 abbrev pub abort_seat : {W : Type 0} → Cause → Seat W → Seat W
 abort_seat cause it = record { head = abort cause it.head; reads = []; writes = [] }
 
+-- the seat with another record
+abbrev pub seated : {W : Type 0} → Seat W → Head → Seat W
+seated it x = record it { head = x }
+
 -- another seat whose logs are hit, in hardware, aborts by conflict
 abbrev pub struck_by : {W : Type 0} → (List (Slot W) → List (Slot W) → Bool) → Seat W → Seat W
 struck_by hit it = cond (is_hardware it.head.state && hit it.reads it.writes) (abort_seat Conflict it) it

@@ -22,9 +22,9 @@ use Rattle.rules.specs.Bounds.{InBounds}
 use Rattle.rules.specs.History.{History, GrantedClose, EndedTransaction, Page, pages_with, cells_after, closes_of_others}
 use Rattle.rules.specs.RunLaws.{Agrees, Explained, Bounded, most_attempts}
 use Rattle.rules.proofs.Records.{bench, with_numbers, become, wrote, resnap}
-use Rattle.rules.proofs.Basics.{wrong, nth-set-same, nth-map-some, after-each}
+use Rattle.rules.proofs.Basics.{wrong, nth-set-same, nth-map-some, after-each, some-length}
 use Rattle.rules.proofs.Admitted.{Sized}
-use Rattle.rules.proofs.Seats.{Seat, Rig, view, seat_of, loaded, locked, map-map_at}
+use Rattle.rules.proofs.Seats.{Seat, Rig, view, seat_of, loaded, locked, map-map_at, seated}
 use Rattle.rules.proofs.Views.{seat-there, untouched, conflict-seen, locks-seen}
 use Rattle.rules.proofs.LogLaws.{agrees-put-in}
 use Rattle.rules.proofs.HistoryLaws.{after-append, count-stable, count-grown, explained-grown, bounded-grown}
@@ -41,10 +41,6 @@ pub none-empty : {X : Type 0} (xs : List X) → is_empty xs ≡ true → xs ≡ 
 none-empty [] e = refl
 none-empty (x ∷ xs) e = wrong e
 
-pub some-length : {X : Type 0} (xs : List X) → is_empty xs ≡ false → 0 < length xs
-some-length [] e = wrong (sym e)
-some-length (x ∷ xs) e = omega arith
-
 module _ {W : Type 0} (kit : Kit W) (law : Lawful kit) (start : List W) (b : Bench W) (l : History W) (inv : Inv kit start (view b) l) (bounds : InBounds b.table) (lists : Sized b)
     (h : ℕ) (lt : h < b.table.head_count) (running : (is_hardware (head_at b h).state || is_software (head_at b h).state) ≡ true) where
   abbrev m : Rig W
@@ -55,10 +51,6 @@ module _ {W : Type 0} (kit : Kit W) (law : Lawful kit) (start : List W) (b : Ben
 
   at : slice_get m.heads h ≡ Some me
   at = seat-there b bounds lists h lt
-
-  -- the seat with another record
-  abbrev seated : Head → Seat W
-  seated x = record { head = x; reads = me.reads; writes = me.writes }
 
   abbrev Kept : Outcome Closing W → Type 0
   Kept o = Keeps kit start l h Close (with_answer granted.Closed o)
@@ -140,7 +132,7 @@ module _ {W : Type 0} (kit : Kit W) (law : Lawful kit) (start : List W) (b : Ben
   keep-hardware hardware =
       let even = hardware-even kit law start b l inv h at hardware in
       let o = inv.heads h me at in
-      let me' = seated (become Idle (head_at b h)) in
+      let me' = seated me (become Idle (head_at b h)) in
       keep-alone kit start _ b bounds lists h lt b.table.sequence (b.table.commits + 1) b.table.opened (become Idle (head_at b h)) (put_in me.writes b.cells) b.reads b.writes (untouched b bounds lists h lt)
       (moving kit start m l inv h me me' (λ o. o) m.sequence (m.commits + 1) (put_in me.writes m.cells) (commit ∷ []) closes'
       (pages_with l.pages h (page' false)) (page' false) l.past (end me.head.attempts ∷ l.ended)
@@ -160,7 +152,7 @@ module _ {W : Type 0} (kit : Kit W) (law : Lawful kit) (start : List W) (b : Ben
   keep-empty software none =
       let o = inv.heads h me at in
       let linked = o.live running in
-      let me' = seated (become Idle (head_at b h)) in
+      let me' = seated me (become Idle (head_at b h)) in
       let x = inv.present h in
       let plain = going-plain me.head.state (running-going me.head.state running) in
       let same : cells_after closes' start ≡ cells_after l.closes start =
@@ -194,7 +186,7 @@ module _ {W : Type 0} (kit : Kit W) (law : Lawful kit) (start : List W) (b : Ben
   keep-lock software some even =
       let o = inv.heads h me at in
       let x = become WritingBack (wrote 0 (resnap (present_snapshot b.table) (head_at b h))) in
-      let me' = seated x in
+      let me' = seated me x in
       let strike : ℕ → Head → Head = abort_if_hit b h (hit_by_loads kit (cells_validated kit b h)) in
       let f : Seat W → Seat W = λ o. locked (loaded kit (cells_validated kit b h) o) in
       let struck : (o : Seat W) → Struck o (f o) = λ o. struck-locked o (loaded kit (cells_validated kit b h) o) (struck-hit (hit_by_loads kit (cells_validated kit b h)) o) in

@@ -22,7 +22,7 @@ use Rattle.rules.specs.History.{History, Page, pages_with, cells_after}
 use Rattle.rules.proofs.Records.{become, wrote}
 use Rattle.rules.proofs.Basics.{by-test, wrong, nth-set-same, nth-map-some, after-each}
 use Rattle.rules.proofs.Admitted.{Sized}
-use Rattle.rules.proofs.Seats.{Seat, Rig, view, seat_of}
+use Rattle.rules.proofs.Seats.{Seat, Rig, view, seat_of, seated}
 use Rattle.rules.proofs.Views.{seat-there, untouched}
 use Rattle.rules.proofs.LogLaws.{put-in-append}
 use Rattle.rules.proofs.Invariant.{Inv, Lone}
@@ -55,10 +55,6 @@ module _ {W : Type 0} (kit : Kit W) (law : Lawful kit) (start : List W) (b : Ben
   at : slice_get m.heads h ≡ Some me
   at = seat-there b bounds lists h lt
 
-  -- the seat with another record
-  abbrev seated : Head → Seat W
-  seated x = record { head = x; reads = me.reads; writes = me.writes }
-
   odd_now : is_odd m.sequence ≡ true
   odd_now = by-test (is_odd m.sequence) (λ b. is_odd m.sequence ≡ b → b ≡ true) (λ _ _. refl) (λ _ e. wrong (sym ((inv.calm e).no-writing h me at) ∙ writing)) refl
 
@@ -90,11 +86,11 @@ module _ {W : Type 0} (kit : Kit W) (law : Lawful kit) (start : List W) (b : Ben
       by-test (is_writing_back y.head.state) (λ b. is_writing_back y.head.state ≡ b → b ≡ false) (λ _ e. absurd (ne (lone.lone k y there e ∙ sym who-me))) (λ _ _. refl) refl
 
   last-push : leb (length me.writes) (me.head.written + 1) ≡ true
-      → Inv kit start (record { heads = set (map (λ (o : Seat W). o) m.heads) h (seated (become Idle (wrote (me.head.written + 1) (head_at b h)))); sequence = m.sequence + 1; commits = m.commits; cells = rest }) freed
+      → Inv kit start (record { heads = set (map (λ (o : Seat W). o) m.heads) h (seated me (become Idle (wrote (me.head.written + 1) (head_at b h)))); sequence = m.sequence + 1; commits = m.commits; cells = rest }) freed
   last-push last =
       let o = inv.heads h me at in
       let le = leb-true (length me.writes) (me.head.written + 1) last in
-      let me' = seated (become Idle (wrote (me.head.written + 1) (head_at b h))) in
+      let me' = seated me (become Idle (wrote (me.head.written + 1) (head_at b h))) in
       moving kit start m l inv h me me' (λ o. o) (m.sequence + 1) m.commits rest [] l.closes
       (pages_with l.pages h freed-page) freed-page l.past l.ended
       at struck-same (λ k ne. turned-other l.pages h _ k ne) (turned-here l.pages h _) (sym (append-nil l.closes)) (λ k ne. All-nil (λ s. eqb k s.head ≡ false)) (omega arith) (omega arith)
@@ -110,11 +106,11 @@ module _ {W : Type 0} (kit : Kit W) (law : Lawful kit) (start : List W) (b : Ben
       inv.past (inv.present h) inv.ended (inv.bound h)
 
   next-push : leb (length me.writes) (me.head.written + 1) ≡ false
-      → Inv kit start (record { heads = set (map (λ (o : Seat W). o) m.heads) h (seated (become WritingBack (wrote (me.head.written + 1) (head_at b h)))); sequence = m.sequence; commits = m.commits; cells = rest }) l
+      → Inv kit start (record { heads = set (map (λ (o : Seat W). o) m.heads) h (seated me (become WritingBack (wrote (me.head.written + 1) (head_at b h)))); sequence = m.sequence; commits = m.commits; cells = rest }) l
   next-push more =
       let o = inv.heads h me at in
       let lt = leb-false (length me.writes) (me.head.written + 1) more in
-      let me' = seated (become WritingBack (wrote (me.head.written + 1) (head_at b h))) in
+      let me' = seated me (become WritingBack (wrote (me.head.written + 1) (head_at b h))) in
       moving kit start m l inv h me me' (λ o. o) m.sequence m.commits rest [] l.closes
       l.pages (l.pages h) l.past l.ended
       at struck-same (λ k ne. refl) refl (sym (append-nil l.closes)) (λ k ne. All-nil (λ s. eqb k s.head ≡ false)) (omega arith) (omega arith)
@@ -145,6 +141,6 @@ module _ {W : Type 0} (kit : Kit W) (law : Lawful kit) (start : List W) (b : Ben
       (keep-alone kit start (cond last freed l) b bounds lists h lt (cond last (b.table.sequence + 1) b.table.sequence) b.table.commits b.table.opened (x last) rest b.reads b.writes (untouched b bounds lists h lt)
       (by-test last
       (λ t. Inv kit start
-      (record { heads = set (map (λ (o : Seat W). o) m.heads) h (seated (x t)); sequence = cond t (m.sequence + 1) m.sequence; commits = m.commits; cells = rest })
+      (record { heads = set (map (λ (o : Seat W). o) m.heads) h (seated me (x t)); sequence = cond t (m.sequence + 1) m.sequence; commits = m.commits; cells = rest })
       (cond t freed l))
       last-push next-push))
