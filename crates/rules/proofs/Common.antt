@@ -21,7 +21,8 @@ use Rattle.rules.specs.RunLaws.{Agrees}
 use Rattle.rules.specs.Kit.{Kit}
 use Rattle.rules.proofs.Lawful.{Lawful}
 use Rattle.rules.specs.Heads.{is_hardware, is_software, is_aborted}
-use Rattle.rules.specs.Bench.{Bench, hit_by_loads, is_odd, is_current, holds, is_valid, cells_validated}
+use Rattle.rules.specs.Logs.{holds}
+use Rattle.rules.specs.Bench.{Bench, hit_by_loads, is_odd, is_current, is_valid, cells_validated}
 use Rattle.rules.proofs.Seats.{Seat, Rig, view, seat_of, abort_seat, meets, loaded}
 use Rattle.rules.specs.History.{History, cells_after, is_other, closes_of_others}
 use Rattle.rules.proofs.Basics.{by-test, wrong}
@@ -73,8 +74,8 @@ module _ {W : Type 0} (kit : Kit W) (law : Lawful kit) (start : List W) (b : Ben
       (λ (f : is_current kit b h ≡ true).
       let both = and_parts (eqb me.head.snapshot.sequence m.sequence) (eqb me.head.snapshot.commits m.commits) f in
       ((inv.heads h me at).software software).valid (eqb-true me.head.snapshot.sequence m.sequence both.0) (eqb-true me.head.snapshot.commits m.commits both.1))
-      (λ (c : list_all (holds kit b h) me.reads ≡ true). check-agrees kit law b h me.reads c)
-      (or_cases (is_current kit b h) (list_all (holds kit b h) me.reads) e)
+      (λ (c : list_all (holds kit.same b.cells) me.reads ≡ true). check-agrees kit law b h me.reads c)
+      (or_cases (is_current kit b h) (list_all (holds kit.same b.cells) me.reads) e)
 
   -- a software head aborts only after a close with writes of another head
   pub charged : (software : is_software me.head.state ≡ true) → is_odd m.sequence ≡ false → is_valid kit b h ≡ false
@@ -96,7 +97,7 @@ module _ {W : Type 0} (kit : Kit W) (law : Lawful kit) (start : List W) (b : Ben
       sym (after-quiet h (drop p l.closes) (cells_after (take p l.closes) start) others none) ∙ sym (after-append (take p l.closes) (drop p l.closes) start)
       ∙ ap (λ cs. cells_after cs start) (take-append-drop p l.closes) ∙ sym (inv.calm even).settled in
       let valid : Agrees m.cells me.reads = subst (λ xs. Agrees xs me.reads) now s.valid-then in
-      wrong (sym (or_parts (is_current kit b h) (list_all (holds kit b h) me.reads) unsound).1 ∙ agrees-check kit law b h me.reads valid))
+      wrong (sym (or_parts (is_current kit b h) (list_all (holds kit.same b.cells) me.reads) unsound).1 ∙ agrees-check kit law b h me.reads valid))
       (cases_lt 0 (length (filter (is_other h) (drop p l.closes)))) in
       let more = count-charge l.closes h since p s.since s.within one in
       omega (arith, s.budget)

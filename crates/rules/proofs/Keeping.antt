@@ -6,11 +6,11 @@ use Rattle.parts.specs.declared.calls.Call.{Call}
 use Rattle.rules.specs.declared.types.Head.{Head}
 use Rattle.rules.specs.declared.types.Slot.{Slot}
 use Rattle.rules.specs.Kit.{Kit}
-use Rattle.rules.specs.Bench.{Bench, map_at}
+use Rattle.rules.specs.Bench.{Bench, map_at, bench}
 use Rattle.rules.specs.Bounds.{InBounds}
 use Rattle.rules.specs.Answers.{Answer}
 use Rattle.rules.specs.History.{History, history_after}
-use Rattle.rules.proofs.Records.{bench, with_numbers}
+use Rattle.rules.proofs.Records.{with_numbers}
 use Rattle.rules.proofs.Admitted.{Sized}
 use Rattle.rules.proofs.Seats.{Seat, seat_at, view}
 use Rattle.rules.proofs.Views.{Elsewhere, viewed, viewed-alone}

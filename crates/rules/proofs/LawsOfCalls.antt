@@ -15,7 +15,7 @@ use Rattle.rules.specs.declared.types.Refusal.{Refusal}
 use Rattle.rules.specs.declared.types.Refusal.TheVariants as refuse
 use Rattle.rules.specs.Kit.{Kit}
 use Rattle.rules.specs.Heads.{new_head, is_hardware, is_aborted, abort}
-use Rattle.rules.specs.Bench.{Bench, is_odd, head_at, after_loads, cells_validated, lock_out, holds, holds_same, cells_loaded, write_log, read_log}
+use Rattle.rules.specs.Bench.{Bench, is_odd, head_at, after_loads, cells_validated, lock_out, write_log, read_log}
 use Rattle.rules.specs.Refusals.{by_handle, by_number, lengths_match, is_beyond, takes, why_not, waits, lacks_slot, lacks_transaction, lacks_attempt, when, first_found, refusal, refusals}
 use Rattle.rules.specs.Calls.{Outcome}
 use Rattle.rules.specs.Answers.{Answer, with_answer, call_of}
@@ -30,7 +30,7 @@ use Rattle.std.proofs.lemmas.Option.{slice_get_past}
 use Rattle.rules.specs.declared.types.State.{State}
 use Rattle.rules.specs.declared.types.State.TheVariants.{Aborted}
 use Rattle.std.specs.List.{AllByRecursion}
-use Rattle.rules.specs.Logs.{put, note, log_of, lacks_room_for}
+use Rattle.rules.specs.Logs.{put, note, log_of, lacks_room_for, holds, holds_same, cells_loaded}
 use Rattle.rules.proofs.Records.{wrote_more}
 use Rattle.rules.specs.Bounds.{InBounds, HeadBounds}
 use Rattle.rules.proofs.Laid.{log-laid-other}
@@ -333,16 +333,16 @@ others-slots-stay {W} kit b who call j bounds ne =
 pub stray-cells : {W : Type 0} (kit : Kit W) → StrayCells kit
 stray-cells {W} kit = record { differs = differs; not_loaded = inside; not_written = λ s cells far. set_past cells s.cell s.word far }
   where
-    differs : (b : Bench W) (k : ℕ) (s : Slot W) → length b.cells ≤ s.cell → holds kit b k s ≡ false
+    differs : (b : Bench W) (k : ℕ) (s : Slot W) → length b.cells ≤ s.cell → holds kit.same b.cells s ≡ false
     differs b k s far = ap (holds_same kit.same s.word) (slice_get_past b.cells s.cell far)
 
-    inside : (b : Bench W) (k : ℕ) (log : List (Slot W)) → All (λ c. c < length b.cells) (cells_loaded kit b k log)
+    inside : (b : Bench W) (k : ℕ) (log : List (Slot W)) → All (λ c. c < length b.cells) (cells_loaded kit.same b.cells log)
     inside b k [] = All-nil (λ c. c < length b.cells)
     inside b k (s ∷ log) =
         let P : ℕ → Type 0 = λ c. c < length b.cells in
-        let within : holds kit b k s ≡ true → s.cell < length b.cells =
+        let within : holds kit.same b.cells s ≡ true → s.cell < length b.cells =
         λ e. ⊎_elim (λ (lt : s.cell < length b.cells). lt) (λ far. wrong (sym (differs b k s far) ∙ e)) (cases_lt s.cell (length b.cells)) in
-        cond_both (holds kit b k s) _ _ (All P) (λ e. All-cons P s.cell (cells_loaded kit b k log) (within e) (inside b k log))
+        cond_both (holds kit.same b.cells s) _ _ (All P) (λ e. All-cons P s.cell (cells_loaded kit.same b.cells log) (within e) (inside b k log))
         (λ _. cond_both (nat_lt s.cell (length b.cells)) (s.cell ∷ []) [] (All P) (λ e. All-cons P s.cell [] (ltb-true s.cell (length b.cells) e) (All-nil P)) (λ _. All-nil P))
 
 pub call-laws : {W : Type 0} (kit : Kit W) → CallLaws kit

@@ -6,10 +6,10 @@ use Rattle.std.proofs.lemmas.Bool.{eqb-true, eqb-false, or_parts, or_cases, and_
 use Rattle.std.proofs.lemmas.List.{set-set, set_comm, length-append, reverse-append, length-take}
 use Rattle.std.proofs.lemmas.List.Elements.{All-append, All-nil, All-cons, All-head, All-tail}
 use Rattle.rules.specs.declared.types.Slot.{Slot}
-use Rattle.rules.specs.Logs.{slot, is_empty, names, word_for, put, note, lacks_room_for, put_in, log_of}
+use Rattle.rules.specs.Logs.{slot, is_empty, names, word_for, put, note, lacks_room_for, put_in, log_of, holds, holds_same}
 use Rattle.rules.specs.Kit.{Kit}
 use Rattle.rules.proofs.Lawful.{Lawful}
-use Rattle.rules.specs.Bench.{Bench, holds, holds_same}
+use Rattle.rules.specs.Bench.{Bench}
 use Rattle.rules.specs.RunLaws.{Agrees}
 use Rattle.rules.proofs.Seats.{meets}
 use Rattle.rules.proofs.Basics.{eqb-flip, by-test, by-option, wrong, nth-set-other, any_none, all-append-left, all-append-right, all_both}
@@ -179,18 +179,18 @@ module _ {W : Type 0} (kit : Kit W) where
 
   -- validation decides agreement
   module _ (law : Lawful kit) (b : Bench W) (k : ℕ) where
-    pub check-agrees : (log : List (Slot W)) → list_all (holds kit b k) log ≡ true → Agrees b.cells log
+    pub check-agrees : (log : List (Slot W)) → list_all (holds kit.same b.cells) log ≡ true → Agrees b.cells log
     check-agrees [] e = All-nil (AgreesAt b.cells)
     check-agrees (s ∷ log) e =
-        let parts = and_parts (holds kit b k s) (list_all (holds kit b k) log) e in
+        let parts = and_parts (holds kit.same b.cells s) (list_all (holds kit.same b.cells) log) e in
         let at : slice_get b.cells s.cell ≡ Some s.word =
         by-option (slice_get b.cells s.cell) (λ o. holds_same kit.same s.word o ≡ true → o ≡ Some s.word)
         (λ _ h. wrong h) (λ w _ h. ap Some ((law.exact w s.word).0 h)) parts.0 in
         All-cons (AgreesAt b.cells) s log at (check-agrees log parts.1)
 
-    pub agrees-check : (log : List (Slot W)) → Agrees b.cells log → list_all (holds kit b k) log ≡ true
+    pub agrees-check : (log : List (Slot W)) → Agrees b.cells log → list_all (holds kit.same b.cells) log ≡ true
     agrees-check [] h = refl
     agrees-check (s ∷ log) h =
-        and_from (holds kit b k s) (list_all (holds kit b k) log)
+        and_from (holds kit.same b.cells s) (list_all (holds kit.same b.cells) log)
         (ap (λ (o : Option W). holds_same kit.same s.word o) (All-head (AgreesAt b.cells) s log h) ∙ (law.exact s.word s.word).1 refl)
         (agrees-check log (All-tail (AgreesAt b.cells) s log h))

@@ -1,16 +1,11 @@
 -- Short names for records with some parts given anew.
 use Rattle.std.specs.Prelude.{ℕ, List}
 use Rattle.rules.specs.declared.types.Head.{Head}
-use Rattle.rules.specs.declared.types.Slot.{Slot}
 use Rattle.rules.specs.declared.types.Snapshot.{Snapshot}
 use Rattle.rules.specs.declared.types.State.{State}
 use Rattle.rules.specs.declared.types.State.TheVariants.{Idle}
 use Rattle.rules.specs.declared.types.Table.{Table}
 use Rattle.rules.specs.Heads.{empty_logs, stores_after}
-use Rattle.rules.specs.Bench.{Bench}
-
-abbrev pub bench : {W : Type 0} → Table → List W → List (Slot W) → List (Slot W) → Bench W
-bench t cells reads writes = record { table = t; cells = cells; reads = reads; writes = writes }
 
 abbrev pub with_heads : Table → List Head → Table
 with_heads t heads = record t { heads = heads }

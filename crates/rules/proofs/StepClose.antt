@@ -15,13 +15,13 @@ use Rattle.rules.specs.Kit.{Kit}
 use Rattle.rules.proofs.Lawful.{Lawful}
 use Rattle.rules.specs.Logs.{is_empty, put_in}
 use Rattle.rules.specs.Heads.{is_hardware, is_software, is_aborted, is_writing_back, abort}
-use Rattle.rules.specs.Bench.{Bench, head_at, present_snapshot, is_odd, is_valid, cells_validated, abort_if_hit, hit_by_loads, lock_out}
+use Rattle.rules.specs.Bench.{Bench, head_at, present_snapshot, is_odd, is_valid, cells_validated, abort_if_hit, hit_by_loads, lock_out, bench}
 use Rattle.rules.specs.Calls.{Outcome, becomes, hardware_close, software_close, admitted_close}
 use Rattle.rules.specs.Answers.{with_answer}
 use Rattle.rules.specs.Bounds.{InBounds}
 use Rattle.rules.specs.History.{History, GrantedClose, EndedTransaction, Page, pages_with, cells_after, closes_of_others}
 use Rattle.rules.specs.RunLaws.{Agrees, Explained, Bounded, most_attempts}
-use Rattle.rules.proofs.Records.{bench, with_numbers, become, wrote, resnap}
+use Rattle.rules.proofs.Records.{with_numbers, become, wrote, resnap}
 use Rattle.rules.proofs.Basics.{wrong, nth-set-same, nth-map-some, after-each, some-length}
 use Rattle.rules.proofs.Admitted.{Sized}
 use Rattle.rules.proofs.Seats.{Seat, Rig, view, seat_of, loaded, locked, map-map_at, seated}

@@ -15,14 +15,13 @@ use Rattle.rules.specs.declared.types.Slot.{Slot}
 use Rattle.rules.specs.Kit.{Kit}
 use Rattle.rules.proofs.Lawful.{Lawful}
 use Rattle.rules.specs.Heads.{new_head, is_hardware, is_writing_back}
-use Rattle.rules.specs.Bench.{Bench, is_odd}
+use Rattle.rules.specs.Bench.{Bench, is_odd, bench}
 use Rattle.rules.specs.Calls.{new_table}
 use Rattle.rules.specs.Answers.{call_of}
 use Rattle.rules.specs.Bounds.{InBounds}
 use Rattle.rules.specs.Runs.{step_with, step, answers_of, left_by}
 use Rattle.rules.specs.History.{History, blank_page, nothing_yet, history_after, history_of, cells_after}
 use Rattle.rules.specs.RunLaws.{ThreeLaws, Explained, Bounded}
-use Rattle.rules.proofs.Records.{bench}
 use Rattle.rules.proofs.Basics.{by-test, wrong}
 use Rattle.rules.proofs.Admitted.{Admitted, admitted}
 use Rattle.rules.proofs.Cases.{admitted_of, by_call}

@@ -9,9 +9,9 @@ use Rattle.rules.specs.declared.types.Head.{Head}
 use Rattle.rules.specs.declared.types.Slot.{Slot}
 use Rattle.rules.specs.Logs.{log_of, slots_with}
 use Rattle.rules.specs.Heads.{new_head, is_hardware, abort}
-use Rattle.rules.specs.Bench.{Bench, map_at, head_at, read_log, write_log, abort_if_hit, is_locked_out, lock_out}
+use Rattle.rules.specs.Bench.{Bench, map_at, head_at, read_log, write_log, abort_if_hit, is_locked_out, lock_out, bench}
 use Rattle.rules.specs.Bounds.{HeadBounds, InBounds}
-use Rattle.rules.proofs.Records.{bench, with_numbers}
+use Rattle.rules.proofs.Records.{with_numbers}
 use Rattle.rules.proofs.Basics.{by-test}
 use Rattle.rules.proofs.Admitted.{Sized}
 use Rattle.rules.proofs.Laid.{log-laid-own, log-laid-other}

@@ -1,6 +1,6 @@
 -- A rig on the bench: its table and the three lists, what its heads do to one another, and validation.
-use Rattle.std.specs.Prelude.{ℕ, ◌+◌, ◌%◌, Bool, false, not, ◌&&◌, ◌||◌, List, [], ◌∷◌, length, Some, None, Option, ◌==◌, nat_lt, slice_index_or, slice_set, if◌then◌else◌}
-use Rattle.std.specs.List.{slice_get, list_any, list_all}
+use Rattle.std.specs.Prelude.{ℕ, ◌+◌, ◌%◌, Bool, not, ◌&&◌, ◌||◌, List, [], ◌∷◌, ◌==◌, slice_index_or, slice_set, if◌then◌else◌}
+use Rattle.std.specs.List.{list_any, list_all}
 use Rattle.parts.specs.declared.types.Cause.TheVariants.{Conflict, Lock}
 use Rattle.rules.specs.declared.types.Head.{Head}
 use Rattle.rules.specs.declared.types.Slot.{Slot}
@@ -8,7 +8,7 @@ use Rattle.rules.specs.declared.types.Snapshot.{Snapshot}
 use Rattle.rules.specs.declared.types.State.{State}
 use Rattle.rules.specs.declared.types.Table.{Table}
 use Rattle.rules.specs.Kit.{Kit}
-use Rattle.rules.specs.Logs.{touches, log_of}
+use Rattle.rules.specs.Logs.{touches, log_of, holds, cells_loaded}
 use Rattle.rules.specs.Heads.{new_head, is_hardware, abort}
 
 pub record Bench (W : Type 0) : Type 0 where
@@ -29,10 +29,9 @@ abbrev pub map_at : {X : Type 0} → (ℕ → X → X) → ℕ → List X → Li
 map_at f k [] = []
 map_at f k (x ∷ xs) = f k x ∷ map_at f (k + 1) xs
 
--- whether the word that a cell holds, if there is one, is the same as v
-abbrev pub holds_same : {W : Type 0} → (W → W → Bool) → W → Option W → Bool
-holds_same same v None = false
-holds_same same v (Some w) = same w v
+-- the bench of a table and three lists
+abbrev pub bench : {W : Type 0} → Table → List W → List (Slot W) → List (Slot W) → Bench W
+bench t cells reads writes = record { table = t; cells = cells; reads = reads; writes = writes }
 
 module _ {W : Type 0} (b : Bench W) (k : ℕ) where
   -- the record of the head k, and its two logs
@@ -79,22 +78,12 @@ module _ {W : Type 0} (kit : Kit W) (b : Bench W) (k : ℕ) where
   is_current =
       ((head_at b k).snapshot.sequence == b.table.sequence) && (head_at b k).snapshot.commits == b.table.commits
 
-  -- whether the slot's cell holds the slot's word; a cell that is not there does not
-  abbrev pub holds : Slot W → Bool
-  holds s = holds_same kit.same s.word (slice_get b.cells s.cell)
-
-  -- the cells that validation of a log loads, slot by slot, up to the first whose word differs; that one too, if it is there
-  abbrev pub cells_loaded : List (Slot W) → List ℕ
-  cells_loaded [] = []
-  cells_loaded (s ∷ log) =
-      if holds s then s.cell ∷ cells_loaded log else (if nat_lt s.cell (length b.cells) then s.cell ∷ [] else [])
-
   -- validation is skipped while the snapshot is current: whether the head k goes on, and the cells that it has loaded for it
   abbrev pub is_valid : Bool
-  is_valid = is_current || list_all holds (read_log b k)
+  is_valid = is_current || list_all (holds kit.same b.cells) (read_log b k)
 
   abbrev pub cells_validated : List ℕ
-  cells_validated = if is_current then [] else cells_loaded (read_log b k)
+  cells_validated = if is_current then [] else cells_loaded kit.same b.cells (read_log b k)
 
 -- when the sequence lock is taken, every head in hardware aborts
 abbrev pub is_locked_out : State → Bool

@@ -11,8 +11,8 @@ use Rattle.rules.specs.declared.types.Slot.{Slot}
 use Rattle.rules.specs.declared.types.State.TheVariants.{Aborted}
 use Rattle.rules.specs.Kit.{Kit}
 use Rattle.rules.specs.Heads.{is_hardware, is_aborted, abort}
-use Rattle.rules.specs.Logs.{put_in, log_of}
-use Rattle.rules.specs.Bench.{Bench, head_at, holds, cells_loaded}
+use Rattle.rules.specs.Logs.{put_in, log_of, holds, cells_loaded}
+use Rattle.rules.specs.Bench.{Bench, head_at}
 use Rattle.rules.specs.Bounds.{InBounds}
 use Rattle.rules.specs.Refusals.{by_handle, by_number, lengths_match}
 use Rattle.rules.specs.Answers.{Answer, call_of}
@@ -102,8 +102,8 @@ module _ {W : Type 0} (kit : Kit W) where
   -- a slot may name a cell that the rig does not have. Validation takes it as different and does not load it; putting a
   -- log into the cells, as a close and a push do, writes nothing for it
   pub record StrayCells : Type 0 where
-    pub differs : (b : Bench W) (k : ℕ) (s : Slot W) → length b.cells ≤ s.cell → holds kit b k s ≡ false
-    pub not_loaded : (b : Bench W) (k : ℕ) (log : List (Slot W)) → All (λ c. c < length b.cells) (cells_loaded kit b k log)
+    pub differs : (b : Bench W) (k : ℕ) (s : Slot W) → length b.cells ≤ s.cell → holds kit.same b.cells s ≡ false
+    pub not_loaded : (b : Bench W) (k : ℕ) (log : List (Slot W)) → All (λ c. c < length b.cells) (cells_loaded kit.same b.cells log)
     pub not_written : (s : Slot W) (cells : List W) → length cells ≤ s.cell → put_in (s ∷ []) cells ≡ cells
 
   pub record CallLaws : Type 0 where

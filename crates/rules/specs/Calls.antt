@@ -26,6 +26,10 @@ pub record Outcome (A W : Type 0) : Type 0 where
   pub answer : Result A Refusal
   pub left : Bench W
 
+-- by its answer and by the bench that is left
+abbrev pub outcome : {A W : Type 0} → Result A Refusal → Bench W → Outcome A W
+outcome answer b = record { answer = answer; left = b }
+
 -- set-up: 1 to 8 heads and 1 to 1,024 cells; nothing is written into a list
 abbrev pub in_range : ℕ → ℕ → Bool
 in_range heads cells = (nat_le 1 heads && nat_le heads 8) && (nat_le 1 cells && nat_le cells 1024)
@@ -45,7 +49,7 @@ set_up heads cells = if in_range heads cells then Ok (new_table heads cells) els
 
 -- a refusal that is found before the call is carried out changes nothing
 abbrev pub refuses : {A W : Type 0} → Bench W → Refusal → Outcome A W
-refuses b e = record { answer = Err e; left = b }
+refuses b e = outcome (Err e) b
 
 abbrev pub unless : {A W : Type 0} → Option Refusal → Bench W → Outcome A W → Outcome A W
 unless None b granted = granted

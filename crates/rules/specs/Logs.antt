@@ -1,6 +1,6 @@
 -- Logs. A log is a list of slots, the lowest first; the lowest slot that names a cell counts.
-use Rattle.std.specs.List.{list_any}
-use Rattle.std.specs.Prelude.{ℕ, suc, ◌+◌, ◌*◌, Bool, true, false, not, ◌&&◌, List, [], ◌∷◌, ◌++◌, map, length, take, drop, Some, None, Option, ◌==◌, nat_le, slice_set, if◌then◌else◌}
+use Rattle.std.specs.List.{slice_get, list_any}
+use Rattle.std.specs.Prelude.{ℕ, suc, ◌+◌, ◌*◌, Bool, true, false, not, ◌&&◌, List, [], ◌∷◌, ◌++◌, map, length, take, drop, Some, None, Option, ◌==◌, nat_lt, nat_le, slice_set, if◌then◌else◌}
 use Rattle.rules.specs.declared.types.Slot.{Slot}
 
 abbrev pub is_empty : {X : Type 0} → List X → Bool
@@ -49,6 +49,23 @@ distinct_count (x ∷ xs) = if list_any (x ==◌) xs then distinct_count xs else
 abbrev pub put_in : {W : Type 0} → List (Slot W) → List W → List W
 put_in [] cells = cells
 put_in (s ∷ log) cells = put_in log (slice_set cells s.cell s.word)
+
+-- whether the word that a cell holds, if there is one, is the same as v
+abbrev pub holds_same : {W : Type 0} → (W → W → Bool) → W → Option W → Bool
+holds_same same v None = false
+holds_same same v (Some w) = same w v
+
+-- validation of a log, by the test of words and by the cells
+module _ {W : Type 0} (same : W → W → Bool) (cells : List W) where
+  -- whether the slot's cell holds the slot's word; a cell that is not there does not
+  abbrev pub holds : Slot W → Bool
+  holds s = holds_same same s.word (slice_get cells s.cell)
+
+  -- the cells that validation loads, slot by slot, up to the first whose word differs; that one too, if it is there
+  abbrev pub cells_loaded : List (Slot W) → List ℕ
+  cells_loaded [] = []
+  cells_loaded (s ∷ log) =
+      if holds s then s.cell ∷ cells_loaded log else (if nat_lt s.cell (length cells) then s.cell ∷ [] else [])
 
 -- the log of the head k: the first n of its 32 slots
 abbrev pub log_of : {W : Type 0} → ℕ → ℕ → List (Slot W) → List (Slot W)
