@@ -1,0 +1,4 @@
+mod Counted
+mod Lookups
+mod Placed
+mod Validated
