@@ -1,0 +1,3 @@
+mod Hits
+mod Mapped
+mod Refused

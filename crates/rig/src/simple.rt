@@ -1,0 +1,97 @@
+// The calls that look into no log: open, jolt, again and drop.
+ghost use Rattle.std.specs.Prelude.{◌≡◌};
+ghost use Rattle.parts.specs.declared.types.Mode.{Mode as Modes};
+ghost use Rattle.rules.specs.Bench.{bench};
+ghost use Rattle.rules.specs.Bounds.{InBounds};
+ghost use Rattle.rules.specs.Kit.{Kit};
+ghost use Rattle.rules.specs.Calls.{outcome, open_of, jolt_of, drop_of, again_of};
+
+use crate::admission::admit;
+use crate::heads::{abort, begin, empty_logs, is_locked, next_mode, present_snapshot, with_transaction};
+use parts::{Call, Cause, Mode, Policy, Word};
+use rules::{Caller, Head, Refusal, Slot, State, Table};
+
+#[tactic(auto, using(crate::proofs::Refused::refused))]
+// A new transaction of an idle head begins in hardware.
+pub(crate) fn open<W: Word>(
+    table: &mut Table,
+    who: Caller,
+    cells: &[W],
+    reads: &[Slot<W>],
+    writes: &[Slot<W>],
+) -> Result<Mode, Refusal>
+    requires { InBounds table.old }
+    ensures { outcome result (bench table.new cells.now reads.now writes.now) ≡ open_of (bench table.old cells.now reads.now writes.now) who }
+{
+    let me = admit(table, who, Call::Open, cells, reads, writes)?;
+    if is_locked(table) {
+        return Err(Refusal::Busy);
+    }
+    if table.opened >= 60_000 {
+        return Err(Refusal::OutOfTransactions);
+    }
+    table.opened += 1;
+    let new = with_transaction(me, table.opened);
+    table.heads[who.head as usize] = begin(new, Mode::Hardware, present_snapshot(table));
+    Ok(Mode::Hardware)
+}
+
+// An interrupt aborts a hardware attempt.
+pub(crate) fn jolt<W: Word>(
+    table: &mut Table,
+    who: Caller,
+    cells: &[W],
+    reads: &[Slot<W>],
+    writes: &[Slot<W>],
+) -> Result<(), Refusal>
+    requires { InBounds table.old }
+    ensures { outcome result (bench table.new cells.now reads.now writes.now) ≡ jolt_of (bench table.old cells.now reads.now writes.now) who }
+{
+    let me = admit(table, who, Call::Jolt, cells, reads, writes)?;
+    table.heads[who.head as usize] = abort(me, Cause::Other);
+    Err(Refusal::Aborted(Cause::Other))
+}
+
+// The transaction is given up.
+pub(crate) fn cancel<W: Word>(
+    table: &mut Table,
+    who: Caller,
+    cells: &[W],
+    reads: &[Slot<W>],
+    writes: &[Slot<W>],
+) -> Result<(), Refusal>
+    requires { InBounds table.old }
+    ensures { outcome result (bench table.new cells.now reads.now writes.now) ≡ drop_of (bench table.old cells.now reads.now writes.now) who }
+{
+    let me = admit(table, who, Call::Drop, cells, reads, writes)?;
+    table.heads[who.head as usize] = Head {
+        state: State::Idle,
+        ..empty_logs(me)
+    };
+    Ok(())
+}
+
+// The next attempt of an aborted head begins: in software after a software attempt, and as the policy says after a hardware one.
+#[tactic(auto, using(crate::proofs::Refused::refused))]
+pub(crate) fn again<P: Policy, W: Word>(
+    table: &mut Table,
+    policy: &P,
+    who: Caller,
+    cells: &[W],
+    reads: &[Slot<W>],
+    writes: &[Slot<W>],
+) -> Result<Mode, Refusal>
+    requires { InBounds table.old }
+    ensures { (kit : Kit W) → kit.next ≡ P.Policy.next policy.now → outcome result (bench table.new cells.now reads.now writes.now) ≡ again_of kit (bench table.old cells.now reads.now writes.now) who }
+{
+    let me = admit(table, who, Call::Again, cells, reads, writes)?;
+    if is_locked(table) {
+        return Err(Refusal::Busy);
+    }
+    if me.attempts >= 70_000 {
+        return Err(Refusal::OutOfAttempts);
+    }
+    let mode = next_mode(policy, me.state, me.hardware_aborts);
+    table.heads[who.head as usize] = begin(me, mode, present_snapshot(table));
+    Ok(mode)
+}

@@ -1,0 +1,123 @@
+// What an access of one head does to the others.
+ghost use Rattle.std.specs.Prelude.{◌≡◌, ℕ, ◌++◌, ◌∷◌, [], Bool, List, map, length, All};
+ghost use Rattle.rules.specs.declared.types.Head.{Head as HeadRecord};
+ghost use Rattle.rules.specs.declared.types.Slot.{Slot as SlotRecord};
+ghost use Rattle.rules.specs.declared.types.Table.{Table as TableRecord};
+ghost use Rattle.rules.specs.Bench.{bench, map_at, abort_if_hit, lock_out};
+ghost use Rattle.rules.specs.Bounds.{HeadBounds};
+ghost use Rattle.rig.specs.Accesses.{runs_into_load, runs_into_store, cells_of};
+
+use crate::heads::abort;
+use logs::Log;
+use parts::{Board, Cause, Word};
+use rules::{Head, Slot, State};
+
+// An access to memory: which logs of another head in hardware it runs into.
+pub(crate) trait Access<W: Word> {
+    ghost hits: { Self → (ℕ → ℕ) → List (SlotRecord W) → List (SlotRecord W) → Bool };
+
+    fn hits<B: Board>(&self, board: &B, reads: &Log<'_, W>, writes: &Log<'_, W>) -> bool
+        ensures { result ≡ hits self.now (B.Board.line board.now) reads.now.slots.now writes.now.slots.now };
+}
+
+// Loads of cells: those of a log, and perhaps one more.
+#[derive(Drop)]
+pub(crate) struct Loads<'a, W> {
+    pub(crate) log: Log<'a, W>,
+    pub(crate) cell: Option<u32>,
+}
+
+impl<W: Word> Access<W> for Loads<'_, W> {
+    ghost hits = { λ a line reads writes. runs_into_load line (cells_of a.log.slots.now a.cell) writes };
+
+    #[tactic(auto, using(crate::proofs::Hits::log_hits, crate::proofs::Hits::cell_hits, crate::proofs::Hits::none_hits))]
+    fn hits<B: Board>(&self, board: &B, _reads: &Log<'_, W>, writes: &Log<'_, W>) -> bool {
+        if self.log.shares_line(board, writes) {
+            return true;
+        }
+        match self.cell {
+            Some(cell) => writes.touches(board, board.line(cell)),
+            None => false,
+        }
+    }
+}
+
+// A hardware store to a cell.
+#[derive(Drop)]
+pub(crate) struct Store {
+    pub(crate) cell: u32,
+}
+
+impl<W: Word> Access<W> for Store {
+    ghost hits = { λ a line reads writes. runs_into_store line a.cell reads writes };
+
+    fn hits<B: Board>(&self, board: &B, reads: &Log<'_, W>, writes: &Log<'_, W>) -> bool {
+        let line = board.line(self.cell);
+        reads.touches(board, line) || writes.touches(board, line)
+    }
+}
+
+// The head `other` after an access of the head `me`: in hardware it aborts if its logs are hit.
+fn after_access<A: Access<W>, B: Board, W: Word>(
+    head: Head,
+    other: u32,
+    me: u32,
+    board: &B,
+    access: &A,
+    reads: &[Slot<W>],
+    writes: &[Slot<W>],
+) -> Head
+    requires { HeadBounds head }
+    ensures { (t : TableRecord) (cells : List W) → result ≡ abort_if_hit (bench t cells reads.now writes.now) me (A.Access.hits access.now (B.Board.line board.now)) other head }
+{
+    let is_hardware = matches!(head.state, State::Hardware);
+    if other == me || !is_hardware {
+        return head;
+    }
+    let reads = Log::of_head(reads, other, head.read_count);
+    let writes = Log::of_head(writes, other, head.write_count);
+    if access.hits(board, &reads, &writes) {
+        abort(head, Cause::Conflict)
+    } else {
+        head
+    }
+}
+
+// Every other head in hardware whose logs the access hits aborts by conflict.
+pub(crate) fn abort_hit<A: Access<W>, B: Board, W: Word>(
+    heads: &mut [Head; 8],
+    me: u32,
+    board: &B,
+    access: &A,
+    reads: &[Slot<W>],
+    writes: &[Slot<W>],
+)
+    requires { All HeadBounds heads.old }
+    ensures { (t : TableRecord) (cells : List W) → heads.new ≡ map_at (abort_if_hit (bench t cells reads.now writes.now) me (A.Access.hits access.now (B.Board.line board.now))) 0 heads.old }
+{
+    for k in 0..8 {
+        let at = k as usize;
+        heads[at] = after_access(heads[at], k, me, board, access, reads, writes);
+    }
+}
+
+// The head once the sequence lock is taken: in hardware it aborts.
+fn lock_out(head: Head) -> Head
+    requires { HeadBounds head }
+    ensures { result ≡ lock_out head }
+{
+    match head.state {
+        State::Hardware => abort(head, Cause::Lock),
+        _ => head,
+    }
+}
+
+// The sequence lock is taken: every head in hardware aborts.
+pub(crate) fn lock_all_out(heads: &mut [Head; 8])
+    requires { All HeadBounds heads.old }
+    ensures { heads.new ≡ map lock_out heads.old }
+{
+    for k in 0..8 {
+        heads[k] = lock_out(heads[k]);
+    }
+}
