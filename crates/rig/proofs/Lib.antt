@@ -1,3 +1,4 @@
 mod Hits
 mod Mapped
+mod Noted
 mod Refused

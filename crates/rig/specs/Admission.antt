@@ -19,6 +19,7 @@ module _ {W : Type 0} (b : Bench W) (who : Caller) (call : Call ℕ W) where
 
 -- what is known of a head that is admitted
 pub record Admits {W : Type 0} (b : Bench W) (who : Caller) (call : Call ℕ W) (h : Head) : Type 0 where
+  pub own : h ≡ head_at b who.head
   pub bounds : HeadBounds h
   pub head : who.head < b.table.head_count
   pub few : b.table.head_count ≤ 8

@@ -3,5 +3,8 @@
 
 mod admission;
 mod heads;
+mod noting;
+mod reading;
 mod simple;
 mod sweeps;
+mod write_back;

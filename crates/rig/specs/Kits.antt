@@ -1,0 +1,20 @@
+-- A rig's kit by its words and its board. Most calls do not ask the policy, so what they do holds under any.
+use Rattle.std.specs.Prelude.{ℕ}
+use Rattle.parts.specs.declared.words.Word.{Ghosts as Words}
+use Rattle.parts.specs.declared.boards.Board.{Ghosts as Boards}
+use Rattle.parts.specs.declared.types.Cause.{Cause}
+use Rattle.parts.specs.declared.types.Mode.{Mode}
+use Rattle.rules.specs.Kit.{Kit}
+
+pub record AnyPolicy : Type 0 where
+  pub next : Cause → ℕ → Mode
+  pub patience : ℕ
+
+abbrev pub kit_under : {W B : Type 0} → AnyPolicy → Words W → Boards B → B → Kit W
+kit_under policy words boards board = record {
+  same = words.same;
+  line = boards.line board;
+  fits = boards.fits board;
+  next = policy.next;
+  patience = policy.patience;
+}
