@@ -1,5 +1,5 @@
 -- Lines touched.
-use Rattle.std.proofs.Common.{◌≡◌, ℕ, suc, ◌+◌, false, cond, ◌||◌, eqb, List, [], ◌∷◌, ◌++◌, arith, refl, ap, ◌∙◌}
+use Rattle.std.proofs.Common.{true, ◌≡◌, ℕ, suc, ◌+◌, false, cond, ◌||◌, eqb, List, [], ◌∷◌, ◌++◌, arith, refl, ap, ◌∙◌}
 use Rattle.std.specs.List.{list_any}
 use Rattle.std.proofs.lemmas.List.Folds.{list_any-append}
 use Rattle.rules.specs.declared.types.Slot.{Slot}
@@ -33,3 +33,11 @@ module _ {W : Type 0} (line : ℕ → ℕ) where
 
   pub lines_counted : (xs ys none : List (Slot W)) (n m : ℕ) → none ≡ [] → n ≡ new_lines line xs ys → m ≡ new_lines line ys none → n + m ≡ distinct_count (lines_of line (xs ++ ys))
   lines_counted xs ys none n m e a b = rw (a, b, e) (counted xs ys)
+
+  pub none_more : (l n : ℕ) (xs ys : List (Slot W)) → n ≡ distinct_count (lines_of line (xs ++ ys)) → (touches line l xs || touches line l ys) ≡ true
+      → n ≡ distinct_count (l ∷ lines_of line (xs ++ ys))
+  none_more l n xs ys e t = rw (either l xs ys, t) e
+
+  pub one_more : (l n : ℕ) (xs ys : List (Slot W)) → n ≡ distinct_count (lines_of line (xs ++ ys)) → (touches line l xs || touches line l ys) ≡ false
+      → n + 1 ≡ distinct_count (l ∷ lines_of line (xs ++ ys))
+  one_more l n xs ys e t = rw (either l xs ys, t) (let q : n + 1 ≡ suc n = omega arith in q ∙ ap suc e)

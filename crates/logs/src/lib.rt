@@ -7,6 +7,6 @@ mod log;
 mod validation;
 
 pub use growing::LogMut;
-pub use lines::lines_touched;
+pub use lines::{lines_touched, lines_touched_with};
 pub use log::Log;
 pub use validation::{Validation, validate};

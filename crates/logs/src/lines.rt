@@ -1,5 +1,5 @@
 // Lines touched by an attempt.
-ghost use Rattle.std.specs.Prelude.{◌≡◌, ◌++◌, ◌||◌, ◌≤◌};
+ghost use Rattle.std.specs.Prelude.{◌≡◌, ◌∷◌, ◌++◌, ◌||◌, ◌≤◌};
 ghost use Rattle.rules.specs.Logs.{touches, lines_of, distinct_count};
 ghost use Rattle.logs.specs.Lines.{new_lines};
 
@@ -42,8 +42,27 @@ pub fn lines_touched<W: Word, B: Board>(
     reads: &Log<'_, W>,
     writes: &Log<'_, W>,
 ) -> u16
-    ensures { result ≡ distinct_count (lines_of (B.Board.line board.now) (reads.now.slots.now ++ writes.now.slots.now)) }
+    ensures count { result ≡ distinct_count (lines_of (B.Board.line board.now) (reads.now.slots.now ++ writes.now.slots.now)) }
+    ensures bound { result ≤ 510 }
 {
     let none = writes.part(0, 0);
     new_lines(board, reads, writes) + new_lines(board, writes, &none)
+}
+
+// The same with one cell more.
+#[tactic(auto, using(crate::proofs::Counted::one_more, crate::proofs::Counted::none_more))]
+pub fn lines_touched_with<W: Word, B: Board>(
+    board: &B,
+    cell: u32,
+    reads: &Log<'_, W>,
+    writes: &Log<'_, W>,
+) -> u16
+    ensures { result ≡ distinct_count (B.Board.line board.now cell ∷ lines_of (B.Board.line board.now) (reads.now.slots.now ++ writes.now.slots.now)) }
+{
+    let lines = lines_touched(board, reads, writes);
+    if either_touches(board, board.line(cell), reads, writes) {
+        lines
+    } else {
+        lines + 1
+    }
 }

@@ -1,4 +1,5 @@
 mod Hits
 mod Mapped
 mod Noted
+mod ReadSteps
 mod Refused

@@ -7,4 +7,5 @@ mod noting;
 mod reading;
 mod simple;
 mod sweeps;
+mod validation;
 mod write_back;

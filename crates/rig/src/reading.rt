@@ -1,43 +1,69 @@
 // The call that reads.
-ghost use Rattle.std.specs.Prelude.{length, List, ◌≡◌, ◌<◌, Some, map, false};
+ghost use Rattle.std.specs.Prelude.{◌≡◌, ◌∷◌, ◌++◌, ◌<◌, ◌≤◌, false, length, Some};
 ghost use Rattle.std.specs.List.{slice_get};
 ghost use Rattle.parts.specs.declared.calls.Call.TheVariants as calls;
-ghost use Rattle.rules.specs.Bench.{bench, is_valid, cells_validated, head_at, read_log, write_log};
+ghost use Rattle.rules.specs.Bench.{bench};
 ghost use Rattle.rules.specs.Bounds.{InBounds};
-ghost use Rattle.rules.specs.Calls.{outcome, read_of, hardware_read, software_read, notes_word};
-ghost use Rattle.rules.specs.Kit.{Kit};
-ghost use Rattle.rules.specs.declared.types.Slot.{Slot as SlotRecord};
-ghost use Rattle.rules.specs.Logs.{lacks_room_for, distinct_count, lines_of, log_of};
+ghost use Rattle.rules.specs.Calls.{outcome, read_of, hardware_read, software_read};
+ghost use Rattle.rules.specs.Logs.{distinct_count, lacks_room_for, lines_of, log_of};
 ghost use Rattle.rig.specs.Admission.{Admits};
 ghost use Rattle.rig.specs.Kits.{AnyPolicy, kit_under};
 
 use crate::admission::admit;
 use crate::heads::{abort, is_locked, present_snapshot};
+use crate::noting::note_word;
 use crate::sweeps::{Loads, abort_hit};
-use logs::{Log, LogMut, Validation, lines_touched, validate};
+use crate::validation::revalidate;
+use logs::{Log, lines_touched_with};
 use parts::{Board, Call, Cause, Word};
 use rules::{Caller, Head, Refusal, Slot, State, Table};
 
-// What validation finds for a head in software: nothing is loaded while its snapshot is current.
-pub(crate) fn revalidate<'a, W: Word>(
-    table: &Table,
+// Whether the head's attempt fits with the cell's line touched too.
+fn fits_with<B: Board, W: Word>(
+    board: &B,
     head: u32,
-    cells: &[W],
-    reads: &'a [Slot<W>],
-) -> Validation<'a, W>
-    requires eight { length table.now.heads ≡ 8 }
-    requires head { head < 8 }
-    ensures valid { (kit : Kit W) (writes : List (SlotRecord W)) → kit.same ≡ W.Word.same → result.valid ≡ is_valid kit (bench table.now cells.now reads.now writes) head }
-    ensures loaded { (kit : Kit W) (writes : List (SlotRecord W)) → kit.same ≡ W.Word.same → map (λ s. s.cell) result.loaded.slots.now ≡ cells_validated kit (bench table.now cells.now reads.now writes) head }
+    me: Head,
+    cell: u32,
+    reads: &[Slot<W>],
+    writes: &[Slot<W>],
+) -> bool
+    ensures { result ≡ B.Board.fits board.now me.stores (distinct_count (B.Board.line board.now cell ∷ lines_of (B.Board.line board.now) (log_of head me.read_count reads.now ++ log_of head me.write_count writes.now))) }
 {
-    let me = table.heads[head as usize];
-    let log = Log::of_head(reads, head, me.read_count);
-    let present = present_snapshot(table);
-    if me.snapshot.sequence == present.sequence && me.snapshot.commits == present.commits {
-        return Validation {
-            loaded: log.part(0, 0),
-            valid: true,
-        };
+    let read_log = Log::of_head(reads, head, me.read_count);
+    let write_log = Log::of_head(writes, head, me.write_count);
+    board.fits(
+        me.stores,
+        lines_touched_with(board, cell, &read_log, &write_log),
+    )
+}
+
+// Reads the cell and notes its word; in hardware, if the attempt fits so.
+fn read_in_hardware<B: Board, W: Word>(
+    table: &mut Table,
+    board: &B,
+    who: Caller,
+    me: Head,
+    cell: u32,
+    cells: &[W],
+    reads: &mut [Slot<W>],
+    writes: &[Slot<W>],
+) -> Result<W, Refusal>
+    requires bounds { InBounds table.old }
+    requires admitted { Admits (bench table.old cells.now reads.old writes.now) who (calls.Read cell) me }
+    requires room { lacks_room_for cell (log_of who.head me.read_count reads.old) ≡ false }
+    ensures { (p : AnyPolicy) (w : W) → slice_get cells.now cell ≡ Some w → outcome result (bench table.new cells.now reads.new writes.now) ≡ hardware_read (kit_under p W.Word B.Board board.now) (bench table.old cells.now reads.old writes.now) who.head cell w }
+{
+    if !fits_with(board, who.head, me, cell, reads, writes) {
+        table.heads[who.head as usize] = abort(me, Cause::Capacity);
+        return Err(Refusal::Aborted(Cause::Capacity));
     }
-    validate(cells, &log)
+    let access = Loads {
+        log: Log::of_head(reads, who.head, 0),
+        cell: Some(cell),
+    };
+    abort_hit(&mut table.heads, who.head, board, &access, reads, writes);
+    let word = cells[cell as usize];
+    let read_count = note_word(reads, who.head, me.read_count, cell, word);
+    table.heads[who.head as usize] = Head { read_count, ..me };
+    Ok(word)
 }

@@ -1,0 +1,36 @@
+-- A read, put together from its steps.
+use Rattle.std.proofs.Common.{◌≡◌, ℕ, true, cond, List, [], ◌∷◌, ◌++◌, length, get_or, set, Some, Ok, sym, ap, ◌∙◌, subst}
+use Rattle.std.specs.List.{slice_get}
+use Rattle.std.proofs.lemmas.Option.{get_or_from_slice_get}
+use Rattle.parts.specs.declared.types.Cause.TheVariants.{Capacity}
+use Rattle.rules.specs.declared.types.Head.{Head}
+use Rattle.rules.specs.declared.types.Slot.{Slot}
+use Rattle.rules.specs.Kit.{Kit}
+use Rattle.rules.specs.Logs.{note, lines_of, distinct_count, log_of, slots_with}
+use Rattle.rules.specs.Bench.{Bench, bench, head_at, after_loads}
+use Rattle.rules.specs.Calls.{outcome, notes_word, fits_read, hardware_read, aborts_in}
+
+module _ {W : Type 0} (kit : Kit W) (b : Bench W) (k c : ℕ) (me : Head) (own : me ≡ head_at b k) where
+  noted : (heads ys : List Head) (h : Head) (n : ℕ) (slots : List (Slot W)) (v w : W)
+      → ys ≡ heads → n ≡ length (note c v (log_of k me.read_count b.reads)) → slots ≡ slots_with k (note c v (log_of k me.read_count b.reads)) b.reads
+      → v ≡ get_or b.cells c v → slice_get b.cells c ≡ Some w
+      → outcome (Ok v) (bench (record b.table { heads = set ys k (record h { read_count = n }) }) b.cells slots b.writes) ≡ notes_word kit b k heads h c w
+  noted heads ys h n slots v w es en el is at =
+      ap (λ zs. outcome (Ok v) (bench (record b.table { heads = set zs k (record h { read_count = n }) }) b.cells slots b.writes)) es
+      ∙ ap (λ i. outcome (Ok v) (bench (record b.table { heads = set heads k (record h { read_count = i }) }) b.cells slots b.writes)) en
+      ∙ ap (λ l. outcome (Ok v) (bench (record b.table { heads = set heads k (record h { read_count = length (note c v (log_of k me.read_count b.reads)) }) }) b.cells l b.writes)) el
+      ∙ ap (λ (x : Head). outcome (Ok v) (bench (record b.table { heads = set heads k (record h { read_count = length (note c v (log_of k x.read_count b.reads)) }) }) b.cells (slots_with k (note c v (log_of k x.read_count b.reads)) b.reads) b.writes)) own
+      ∙ ap (λ x. notes_word kit b k heads h c x) (is ∙ get_or_from_slice_get b.cells c w v at)
+
+  -- in hardware: the attempt fits, and the cell is loaded
+  pub hardware_noted : (ys : List Head) (n : ℕ) (slots : List (Slot W)) (v w : W)
+      → kit.fits me.stores (distinct_count (kit.line c ∷ lines_of kit.line (log_of k me.read_count b.reads ++ log_of k me.write_count b.writes))) ≡ true
+      → ys ≡ after_loads kit b k (c ∷ []) → n ≡ length (note c v (log_of k me.read_count b.reads)) → slots ≡ slots_with k (note c v (log_of k me.read_count b.reads)) b.reads
+      → v ≡ get_or b.cells c v → slice_get b.cells c ≡ Some w
+      → outcome (Ok v) (bench (record b.table { heads = set ys k (record me { read_count = n }) }) b.cells slots b.writes) ≡ hardware_read kit b k c w
+  hardware_noted ys n slots v w fits es en el is at =
+      let fit : fits_read kit b k c ≡ true =
+      subst (λ (x : Head). kit.fits x.stores (distinct_count (kit.line c ∷ lines_of kit.line (log_of k x.read_count b.reads ++ log_of k x.write_count b.writes))) ≡ true) own fits in
+      noted (after_loads kit b k (c ∷ [])) ys me n slots v w es en el is at
+      ∙ ap (λ h. notes_word kit b k (after_loads kit b k (c ∷ [])) h c w) own
+      ∙ sym (ap (λ t. cond t (notes_word kit b k (after_loads kit b k (c ∷ [])) (head_at b k) c w) (aborts_in b k b.table.heads Capacity (head_at b k))) fit)
