@@ -1,5 +1,6 @@
 mod Hits
 mod Mapped
 mod Noted
+mod ReadRows
 mod ReadSteps
 mod Refused

@@ -1,14 +1,18 @@
 -- A read, put together from its steps.
-use Rattle.std.proofs.Common.{◌≡◌, ℕ, true, cond, List, [], ◌∷◌, ◌++◌, length, get_or, set, Some, Ok, sym, ap, ◌∙◌, subst}
+use Rattle.std.proofs.Common.{◌≡◌, ℕ, true, cond, List, [], ◌∷◌, ◌++◌, length, get_or, set, Some, Ok, sym, ap, ◌∙◌, subst, false, Err}
 use Rattle.std.specs.List.{slice_get}
+use Rattle.std.proofs.lemmas.List.{append-nil}
+use Rattle.rules.specs.declared.types.Refusal.TheVariants as refuse
 use Rattle.std.proofs.lemmas.Option.{get_or_from_slice_get}
-use Rattle.parts.specs.declared.types.Cause.TheVariants.{Capacity}
+use Rattle.parts.specs.declared.types.Cause.TheVariants.{Capacity, Changed}
 use Rattle.rules.specs.declared.types.Head.{Head}
 use Rattle.rules.specs.declared.types.Slot.{Slot}
+use Rattle.rules.specs.declared.types.Snapshot.{Snapshot}
+use Rattle.rules.specs.Heads.{abort}
 use Rattle.rules.specs.Kit.{Kit}
 use Rattle.rules.specs.Logs.{note, lines_of, distinct_count, log_of, slots_with}
-use Rattle.rules.specs.Bench.{Bench, bench, head_at, after_loads}
-use Rattle.rules.specs.Calls.{outcome, notes_word, fits_read, hardware_read, aborts_in}
+use Rattle.rules.specs.Bench.{Bench, bench, head_at, after_loads, present_snapshot, is_valid, cells_validated}
+use Rattle.rules.specs.Calls.{outcome, notes_word, fits_read, hardware_read, aborts_in, software_read}
 
 module _ {W : Type 0} (kit : Kit W) (b : Bench W) (k c : ℕ) (me : Head) (own : me ≡ head_at b k) where
   noted : (heads ys : List Head) (h : Head) (n : ℕ) (slots : List (Slot W)) (v w : W)
@@ -34,3 +38,25 @@ module _ {W : Type 0} (kit : Kit W) (b : Bench W) (k c : ℕ) (me : Head) (own :
       noted (after_loads kit b k (c ∷ [])) ys me n slots v w es en el is at
       ∙ ap (λ h. notes_word kit b k (after_loads kit b k (c ∷ [])) h c w) own
       ∙ sym (ap (λ t. cond t (notes_word kit b k (after_loads kit b k (c ∷ [])) (head_at b k) c w) (aborts_in b k b.table.heads Capacity (head_at b k))) fit)
+
+  -- in software: what was read is valid still, and the cells of the read log are loaded before this one
+  pub software_noted : (ys : List Head) (n : ℕ) (s : Snapshot) (slots : List (Slot W)) (loaded : List ℕ) (v w : W)
+      → s ≡ present_snapshot b.table → is_valid kit b k ≡ true → loaded ≡ cells_validated kit b k
+      → ys ≡ after_loads kit b k (loaded ++ (c ∷ [])) → n ≡ length (note c v (log_of k me.read_count b.reads)) → slots ≡ slots_with k (note c v (log_of k me.read_count b.reads)) b.reads
+      → v ≡ get_or b.cells c v → slice_get b.cells c ≡ Some w
+      → outcome (Ok v) (bench (record b.table { heads = set ys k (record me { read_count = n; snapshot = s }) }) b.cells slots b.writes) ≡ software_read kit b k c w
+  software_noted ys n s slots loaded v w eq valid el es en ew is at =
+      ap (λ x. outcome (Ok v) (bench (record b.table { heads = set ys k (record me { read_count = n; snapshot = x }) }) b.cells slots b.writes)) eq
+      ∙ noted (after_loads kit b k (loaded ++ (c ∷ []))) ys (record me { snapshot = present_snapshot b.table }) n slots v w es en ew is at
+      ∙ ap (λ (h : Head). notes_word kit b k (after_loads kit b k (loaded ++ (c ∷ []))) (record h { snapshot = present_snapshot b.table }) c w) own
+      ∙ ap (λ cs. notes_word kit b k (after_loads kit b k (cs ++ (c ∷ []))) (record (head_at b k) { snapshot = present_snapshot b.table }) c w) el
+      ∙ sym (ap (λ t. cond t (notes_word kit b k (after_loads kit b k (cells_validated kit b k ++ (c ∷ []))) (record (head_at b k) { snapshot = present_snapshot b.table }) c w) (aborts_in b k (after_loads kit b k (cells_validated kit b k)) Changed (head_at b k))) valid)
+
+  pub software_changed : (ys : List Head) (h : Head) (loaded : List ℕ) (w : W)
+      → h ≡ abort Changed me → is_valid kit b k ≡ false → loaded ≡ cells_validated kit b k → ys ≡ after_loads kit b k (loaded ++ [])
+      → outcome (Err (refuse.Aborted Changed)) (bench (record b.table { heads = set ys k h }) b.cells b.reads b.writes) ≡ software_read kit b k c w
+  software_changed ys h loaded w eh valid el es =
+      ap (λ x. outcome (Err (refuse.Aborted Changed)) (bench (record b.table { heads = set ys k x }) b.cells b.reads b.writes)) eh
+      ∙ ap (λ zs. outcome (Err (refuse.Aborted Changed)) (bench (record b.table { heads = set zs k (abort Changed me) }) b.cells b.reads b.writes)) (es ∙ ap (after_loads kit b k) (append-nil loaded ∙ el))
+      ∙ ap (λ h. aborts_in b k (after_loads kit b k (cells_validated kit b k)) Changed h) own
+      ∙ sym (ap (λ t. cond t (notes_word kit b k (after_loads kit b k (cells_validated kit b k ++ (c ∷ []))) (record (head_at b k) { snapshot = present_snapshot b.table }) c w) (aborts_in b k (after_loads kit b k (cells_validated kit b k)) Changed (head_at b k))) valid)

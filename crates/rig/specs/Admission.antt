@@ -1,12 +1,12 @@
 -- What is looked for before a head's logs are: whether there is such a head and such a cell, and whether its state takes the call.
-use Rattle.std.specs.Prelude.{◌≡◌, ℕ, ◌*◌, ◌<◌, ◌≤◌, true, false, length, take, Some, None, Ok, Err, Option, Result}
+use Rattle.std.specs.Prelude.{◌≡◌, ℕ, ◌*◌, ◌<◌, ◌≤◌, true, false, length, take, drop, Some, None, Ok, Err, Option, Result}
 use Rattle.parts.specs.declared.calls.Call.{Call}
 use Rattle.rules.specs.declared.types.Caller.{Caller}
 use Rattle.rules.specs.declared.types.Head.{Head}
 use Rattle.rules.specs.declared.types.Refusal.{Refusal}
 use Rattle.rules.specs.Bench.{Bench, head_at}
 use Rattle.rules.specs.Bounds.{HeadBounds}
-use Rattle.rules.specs.Refusals.{first_found, refusals, takes, is_beyond}
+use Rattle.rules.specs.Refusals.{first_found, refusal, refusals, takes, is_beyond}
 
 abbrev pub or_refuse : {X : Type 0} → Option Refusal → X → Result X Refusal
 or_refuse None x = Ok x
@@ -28,3 +28,5 @@ pub record Admits {W : Type 0} (b : Bench W) (who : Caller) (call : Call ℕ W) 
   pub writes : length b.writes ≡ 32 * b.table.head_count
   pub cell : is_beyond b.table.cell_count call ≡ false
   pub taken : takes call h.state ≡ true
+  -- the rows that are left decide
+  pub rows : refusal b who call ≡ first_found (drop 5 (refusals b who call))

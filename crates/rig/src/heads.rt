@@ -1,8 +1,8 @@
 // What becomes of a head's record.
-ghost use Rattle.std.specs.Prelude.{◌≡◌, ◌<◌};
+ghost use Rattle.std.specs.Prelude.{◌≡◌, ◌<◌, ◌&&◌};
 ghost use Rattle.rules.specs.Bench.{present_snapshot, is_odd};
 ghost use Rattle.rules.specs.Bounds.{HeadBounds};
-ghost use Rattle.rules.specs.Heads.{abort, begin, with_transaction, empty_logs, next_mode};
+ghost use Rattle.rules.specs.Heads.{abort, begin, with_transaction, empty_logs, next_mode, is_hardware, is_software};
 
 use parts::{Cause, Mode, Policy};
 use rules::{Head, Snapshot, State, Table};
@@ -22,6 +22,20 @@ pub(crate) fn is_locked(table: &Table) -> bool
     ensures { result ≡ is_odd table.now.sequence }
 {
     table.sequence % 2 == 1
+}
+
+// Whether an attempt of the head runs in hardware.
+pub(crate) fn is_hardware(head: Head) -> bool
+    ensures { result ≡ is_hardware head.state }
+{
+    matches!(head.state, State::Hardware)
+}
+
+// Whether the head is in software, and has to wait for a commit that writes back.
+pub(crate) fn must_wait(table: &Table, head: Head) -> bool
+    ensures { result ≡ (is_software head.state && is_odd table.now.sequence) }
+{
+    matches!(head.state, State::Software) && is_locked(table)
 }
 
 // With both logs emptied.

@@ -10,13 +10,13 @@ ghost use Rattle.rig.specs.Admission.{Admits};
 ghost use Rattle.rig.specs.Kits.{AnyPolicy, kit_under};
 
 use crate::admission::admit;
-use crate::heads::{abort, is_locked, present_snapshot};
+use crate::heads::{abort, is_hardware, must_wait, present_snapshot};
 use crate::noting::note_word;
 use crate::sweeps::{Loads, abort_hit};
 use crate::validation::revalidate;
 use logs::{Log, lines_touched_with};
 use parts::{Board, Call, Cause, Word};
-use rules::{Caller, Head, Refusal, Slot, State, Table};
+use rules::{Caller, Head, Refusal, Slot, Table};
 
 // Whether the head's attempt fits with the cell's line touched too.
 fn fits_with<B: Board, W: Word>(
@@ -66,4 +66,78 @@ fn read_in_hardware<B: Board, W: Word>(
     let read_count = note_word(reads, who.head, me.read_count, cell, word);
     table.heads[who.head as usize] = Head { read_count, ..me };
     Ok(word)
+}
+
+// Reads the cell and notes its word; in software, if what was read before is still valid.
+fn read_in_software<B: Board, W: Word>(
+    table: &mut Table,
+    board: &B,
+    who: Caller,
+    me: Head,
+    cell: u32,
+    cells: &[W],
+    reads: &mut [Slot<W>],
+    writes: &[Slot<W>],
+) -> Result<W, Refusal>
+    requires bounds { InBounds table.old }
+    requires admitted { Admits (bench table.old cells.now reads.old writes.now) who (calls.Read cell) me }
+    requires room { lacks_room_for cell (log_of who.head me.read_count reads.old) ≡ false }
+    ensures { (p : AnyPolicy) (w : W) → slice_get cells.now cell ≡ Some w → outcome result (bench table.new cells.now reads.new writes.now) ≡ software_read (kit_under p W.Word B.Board board.now) (bench table.old cells.now reads.old writes.now) who.head cell w }
+{
+    let found = revalidate(table, who.head, cells, reads);
+    if !found.valid {
+        let access = Loads {
+            log: found.loaded,
+            cell: None,
+        };
+        abort_hit(&mut table.heads, who.head, board, &access, reads, writes);
+        table.heads[who.head as usize] = abort(me, Cause::Changed);
+        return Err(Refusal::Aborted(Cause::Changed));
+    }
+    let access = Loads {
+        log: found.loaded,
+        cell: Some(cell),
+    };
+    abort_hit(&mut table.heads, who.head, board, &access, reads, writes);
+    let snapshot = present_snapshot(table);
+    let word = cells[cell as usize];
+    let read_count = note_word(reads, who.head, me.read_count, cell, word);
+    table.heads[who.head as usize] = Head {
+        read_count,
+        snapshot,
+        ..me
+    };
+    Ok(word)
+}
+
+// The word that the head's write log has for the cell, or else the cell's.
+pub(crate) fn read<B: Board, W: Word>(
+    table: &mut Table,
+    board: &B,
+    who: Caller,
+    cell: u32,
+    cells: &[W],
+    reads: &mut [Slot<W>],
+    writes: &[Slot<W>],
+) -> Result<W, Refusal>
+    requires { InBounds table.old }
+    ensures { (p : AnyPolicy) → outcome result (bench table.new cells.now reads.new writes.now) ≡ read_of (kit_under p W.Word B.Board board.now) (bench table.old cells.now reads.old writes.now) who cell }
+{
+    let me = admit(table, who, Call::Read(cell), cells, reads, writes)?;
+    let write_log = Log::of_head(writes, who.head, me.write_count);
+    if let Some(word) = write_log.word_for(cell) {
+        return Ok(word);
+    }
+    if must_wait(table, me) {
+        return Err(Refusal::Busy);
+    }
+    let read_log = Log::of_head(reads, who.head, me.read_count);
+    if read_log.lacks_room_for(cell) {
+        return Err(Refusal::Full);
+    }
+    if is_hardware(me) {
+        read_in_hardware(table, board, who, me, cell, cells, reads, writes)
+    } else {
+        read_in_software(table, board, who, me, cell, cells, reads, writes)
+    }
 }

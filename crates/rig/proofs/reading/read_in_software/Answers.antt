@@ -1,0 +1,25 @@
+use Rattle.std.proofs.Common.{◌∙◌, sym, refl, map}
+use Rattle.rules.specs.Bench.{bench}
+use Rattle.rig.specs.Kits.{kit_under}
+use Rattle.rig.proofs.ReadSteps.{software_noted, software_changed}
+use Rattle.rig.proofs.reading.read_in_software.Goals as goal
+
+pub returns-then-not-found : goal.returns-then-not-found
+returns-then-not-found g c p w at =
+    let b = bench c.args.table.now c.args.cells.now c.args.reads.now c.args.writes.now in
+    let kit = kit_under p g.W.Word g.B.Board c.args.board.now in
+    software_changed kit b c.args.who.head c.args.cell c.args.me c.requires.admitted.own c.abort_hit.new.heads c.abort.result
+    (map (λ s. s.cell) c.revalidate-found.result.loaded.slots.now) w c.abort.ensures
+    (sym (c.revalidate-found.ensures.valid kit c.args.writes.now refl) ∙ c.if-not-found.true) (c.revalidate-found.ensures.loaded kit c.args.writes.now refl)
+    (c.abort_hit.ensures c.args.table.now c.args.cells.now)
+
+pub returns : goal.returns
+returns g c p w at =
+    let b = bench c.args.table.now c.args.cells.now c.args.reads.now c.args.writes.now in
+    let kit = kit_under p g.W.Word g.B.Board c.args.board.now in
+    software_noted kit b c.args.who.head c.args.cell c.args.me c.requires.admitted.own
+    c.abort_hit-2.new.heads c.note_word-read_count.result c.present_snapshot-snapshot.result c.note_word-read_count.new.slots
+    (map (λ s. s.cell) c.revalidate-found.result.loaded.slots.now) c.index-cells-cell.result w
+    c.present_snapshot-snapshot.ensures (sym (c.revalidate-found.ensures.valid kit c.args.writes.now refl) ∙ c.if-not-found.false) (c.revalidate-found.ensures.loaded kit c.args.writes.now refl)
+    (c.abort_hit-2.ensures c.args.table.now c.args.cells.now)
+    c.note_word-read_count.ensures.count c.note_word-read_count.ensures.slots c.index-cells-cell.is at
