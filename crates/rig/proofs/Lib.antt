@@ -4,3 +4,4 @@ mod Noted
 mod ReadRows
 mod ReadSteps
 mod Refused
+mod WriteSteps

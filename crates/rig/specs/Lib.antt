@@ -1,3 +1,4 @@
 pub mod Accesses
 pub mod Admission
 pub mod Kits
+pub mod Stores

@@ -9,3 +9,4 @@ mod simple;
 mod sweeps;
 mod validation;
 mod write_back;
+mod writing;

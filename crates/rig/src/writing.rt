@@ -1,0 +1,100 @@
+// The call that writes.
+ghost use Rattle.std.specs.Prelude.{◌≡◌, ◌++◌, ◌<◌, ◌≤◌, All, List, length};
+ghost use Rattle.rules.specs.Bench.{bench};
+ghost use Rattle.rules.specs.Bounds.{HeadBounds, InBounds};
+ghost use Rattle.rules.specs.Calls.{outcome, write_of};
+ghost use Rattle.rules.specs.Heads.{stores_after};
+ghost use Rattle.rules.specs.Logs.{distinct_count, lines_of, log_of};
+ghost use Rattle.rig.specs.Kits.{AnyPolicy, kit_under};
+ghost use Rattle.rig.specs.Stores.{stored};
+
+use crate::admission::admit;
+use crate::heads::{abort, is_hardware};
+use crate::noting::put_word;
+use crate::sweeps::{Store, abort_hit};
+use logs::{Log, lines_touched};
+use parts::{Board, Call, Cause, Word};
+use rules::{Caller, Head, Refusal, Slot, State, Table};
+
+// The head with so many slots in its write log; a hardware attempt counts a store.
+fn with_write(head: Head, write_count: u8) -> Head
+    ensures { result ≡ record head { stores = stores_after head.state head.stores; write_count = write_count } }
+{
+    let stores = match head.state {
+        State::Hardware => head.stores.saturating_add(1),
+        _ => head.stores,
+    };
+    Head {
+        stores,
+        write_count,
+        ..head
+    }
+}
+
+// Whether the head's attempt fits as it is.
+fn fits<B: Board, W: Word>(
+    board: &B,
+    head: u32,
+    me: Head,
+    reads: &[Slot<W>],
+    writes: &[Slot<W>],
+) -> bool
+    ensures { result ≡ B.Board.fits board.now me.stores (distinct_count (lines_of (B.Board.line board.now) (log_of head me.read_count reads.now ++ log_of head me.write_count writes.now))) }
+{
+    let read_log = Log::of_head(reads, head, me.read_count);
+    let write_log = Log::of_head(writes, head, me.write_count);
+    board.fits(me.stores, lines_touched(board, &read_log, &write_log))
+}
+
+// A hardware store to the cell, whose word is in the head's write log already: if the attempt fits, every other head
+// in hardware that has a cell of that line aborts.
+fn store<B: Board, W: Word>(
+    table: &mut Table,
+    board: &B,
+    head: u32,
+    me: Head,
+    cell: u32,
+    reads: &[Slot<W>],
+    writes: &[Slot<W>],
+) -> Result<(), Refusal>
+    requires head { head < 8 }
+    requires own { HeadBounds me }
+    requires others { All HeadBounds table.old.heads }
+    ensures { (p : AnyPolicy) (cells : List W) → outcome result (bench table.new cells reads.now writes.now) ≡ stored (kit_under p W.Word B.Board board.now) (bench table.old cells reads.now writes.now) head me cell }
+{
+    if !fits(board, head, me, reads, writes) {
+        table.heads[head as usize] = abort(me, Cause::Capacity);
+        return Err(Refusal::Aborted(Cause::Capacity));
+    }
+    abort_hit(&mut table.heads, head, board, &Store { cell }, reads, writes);
+    table.heads[head as usize] = me;
+    Ok(())
+}
+
+// Replaces the cell's word in the head's write log, or adds it.
+pub(crate) fn write<B: Board, W: Word>(
+    table: &mut Table,
+    board: &B,
+    who: Caller,
+    cell: u32,
+    word: W,
+    cells: &[W],
+    reads: &[Slot<W>],
+    writes: &mut [Slot<W>],
+) -> Result<(), Refusal>
+    requires { InBounds table.old }
+    ensures { (p : AnyPolicy) → outcome result (bench table.new cells.now reads.now writes.new) ≡ write_of (kit_under p W.Word B.Board board.now) (bench table.old cells.now reads.now writes.old) who cell word }
+{
+    let me = admit(table, who, Call::Write(cell, word), cells, reads, writes)?;
+    let log = Log::of_head(writes, who.head, me.write_count);
+    if log.lacks_room_for(cell) {
+        return Err(Refusal::Full);
+    }
+    let write_count = put_word(writes, who.head, me.write_count, cell, word);
+    let me = with_write(me, write_count);
+    if is_hardware(me) {
+        return store(table, board, who.head, me, cell, reads, writes);
+    }
+    table.heads[who.head as usize] = me;
+    Ok(())
+}
