@@ -1,4 +1,6 @@
+mod CloseSteps
 mod Hits
+mod KeptInBounds
 mod Mapped
 mod Noted
 mod ReadRows

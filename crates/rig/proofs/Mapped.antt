@@ -1,5 +1,6 @@
 -- A list that is mapped place by place.
 use Rattle.std.proofs.Common.{◌≡◌, ℕ, zero, suc, ◌+◌, ◌<◌, ◌≤◌, List, [], ◌∷◌, ◌++◌, length, map, take, drop, set, get_or, refl, ap, ◌∙◌, sym, subst, arith, All}
+use Rattle.std.proofs.lemmas.List.Elements.{All-nil, All-cons, All-head, All-tail}
 use Rattle.std.proofs.Math.ListN.{drop_of_length-le}
 use Rattle.std.proofs.lemmas.List.{take_all, append-nil}
 use Rattle.rules.specs.Bench.{map_at}
@@ -48,3 +49,7 @@ module _ {X : Type 0} where
   pub mapped_alike : (f : X → X) (j : ℕ) (xs : List X) → map_at (λ _ x. f x) j xs ≡ map f xs
   mapped_alike f j [] = refl
   mapped_alike f j (x ∷ xs) = ap (λ ys. f x ∷ ys) (mapped_alike f (j + 1) xs)
+
+  pub mapped_keeps : (P : X → Type 0) (f : ℕ → X → X) (j : ℕ) (xs : List X) → ((i : ℕ) (x : X) → P x → P (f i x)) → All P xs → All P (map_at f j xs)
+  mapped_keeps P f j [] keep all = All-nil P
+  mapped_keeps P f j (x ∷ xs) keep all = All-cons P (f j x) (map_at f (j + 1) xs) (keep j x (All-head P x xs all)) (mapped_keeps P f (j + 1) xs keep (All-tail P x xs all))

@@ -41,10 +41,7 @@ pub(crate) fn admit<W: Word>(
     }
     match (head.state, call) {
         (State::Idle, Call::Open)
-        | (
-            State::Hardware,
-            Call::Read(_) | Call::Write(..) | Call::Close | Call::Jolt | Call::Drop,
-        )
+        | (State::Hardware, Call::Read(_) | Call::Write(..) | Call::Close | Call::Jolt | Call::Drop)
         | (State::Software, Call::Read(_) | Call::Write(..) | Call::Close | Call::Drop)
         | (State::Aborted(_), Call::Again | Call::Drop)
         | (State::WritingBack, Call::Push) => Ok(head),

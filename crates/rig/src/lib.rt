@@ -2,11 +2,15 @@
 #![tactic(auto)]
 
 mod admission;
+mod closing;
 mod heads;
 mod noting;
 mod reading;
+mod rig;
 mod simple;
 mod sweeps;
 mod validation;
 mod write_back;
 mod writing;
+
+pub use rig::Rig;

@@ -7,7 +7,9 @@ ghost use Rattle.rules.specs.Kit.{Kit};
 ghost use Rattle.rules.specs.Calls.{outcome, open_of, jolt_of, drop_of, again_of};
 
 use crate::admission::admit;
-use crate::heads::{abort, begin, empty_logs, is_locked, next_mode, present_snapshot, with_transaction};
+use crate::heads::{
+    abort, begin, empty_logs, is_locked, next_mode, present_snapshot, with_transaction,
+};
 use parts::{Call, Cause, Mode, Policy, Word};
 use rules::{Caller, Head, Refusal, Slot, State, Table};
 

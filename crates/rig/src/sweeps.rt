@@ -93,7 +93,8 @@ pub(crate) fn abort_hit<A: Access<W>, B: Board, W: Word>(
     writes: &[Slot<W>],
 )
     requires { All HeadBounds heads.old }
-    ensures { (t : TableRecord) (cells : List W) → heads.new ≡ map_at (abort_if_hit (bench t cells reads.now writes.now) me (A.Access.hits access.now (B.Board.line board.now))) 0 heads.old }
+    ensures bounds { All HeadBounds heads.new }
+    ensures heads { (t : TableRecord) (cells : List W) → heads.new ≡ map_at (abort_if_hit (bench t cells reads.now writes.now) me (A.Access.hits access.now (B.Board.line board.now))) 0 heads.old }
 {
     for k in 0..8 {
         let at = k as usize;

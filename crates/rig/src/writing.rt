@@ -66,7 +66,14 @@ fn store<B: Board, W: Word>(
         table.heads[head as usize] = abort(me, Cause::Capacity);
         return Err(Refusal::Aborted(Cause::Capacity));
     }
-    abort_hit(&mut table.heads, head, board, &Store { cell }, reads, writes);
+    abort_hit(
+        &mut table.heads,
+        head,
+        board,
+        &Store { cell },
+        reads,
+        writes,
+    );
     table.heads[head as usize] = me;
     Ok(())
 }

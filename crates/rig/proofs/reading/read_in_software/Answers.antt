@@ -11,7 +11,7 @@ returns-then-not-found g c p w at =
     software_changed kit b c.args.who.head c.args.cell c.args.me c.requires.admitted.own c.abort_hit.new.heads c.abort.result
     (map (λ s. s.cell) c.revalidate-found.result.loaded.slots.now) w c.abort.ensures
     (sym (c.revalidate-found.ensures.valid kit c.args.writes.now refl) ∙ c.if-not-found.true) (c.revalidate-found.ensures.loaded kit c.args.writes.now refl)
-    (c.abort_hit.ensures c.args.table.now c.args.cells.now)
+    (c.abort_hit.ensures.heads c.args.table.now c.args.cells.now)
 
 pub returns : goal.returns
 returns g c p w at =
@@ -21,5 +21,5 @@ returns g c p w at =
     c.abort_hit-2.new.heads c.note_word-read_count.result c.present_snapshot-snapshot.result c.note_word-read_count.new.slots
     (map (λ s. s.cell) c.revalidate-found.result.loaded.slots.now) c.index-cells-cell.result w
     c.present_snapshot-snapshot.ensures (sym (c.revalidate-found.ensures.valid kit c.args.writes.now refl) ∙ c.if-not-found.false) (c.revalidate-found.ensures.loaded kit c.args.writes.now refl)
-    (c.abort_hit-2.ensures c.args.table.now c.args.cells.now)
+    (c.abort_hit-2.ensures.heads c.args.table.now c.args.cells.now)
     c.note_word-read_count.ensures.count c.note_word-read_count.ensures.slots c.index-cells-cell.is at

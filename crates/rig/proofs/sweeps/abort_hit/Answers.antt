@@ -1,8 +1,14 @@
-use Rattle.std.proofs.Common.{[], length, ◌<◌, arith}
+use Rattle.std.proofs.Common.{subst, sym, All, not, ◌&&◌, eqb, [], length, ◌<◌, arith}
 use Rattle.rules.specs.Heads.{new_head}
+use Rattle.rules.specs.Bench.{bench, abort_if_hit}
 use Rattle.rules.specs.Bounds.{HeadBounds}
+use Rattle.std.proofs.lemmas.Bool.{cond_both}
+use Rattle.parts.specs.declared.types.Cause.TheVariants.{Conflict}
+use Rattle.rules.specs.Heads.{abort, is_hardware}
+use Rattle.rules.specs.Logs.{log_of}
+use Rattle.rules.proofs.HeadBounds.{abort-bounds}
 use Rattle.rules.specs.Calls.{new_table}
-use Rattle.rig.proofs.Mapped.{mapped_holds, mapped_more, mapped_all}
+use Rattle.rig.proofs.Mapped.{mapped_keeps, mapped_holds, mapped_more, mapped_all}
 use Rattle.rig.proofs.sweeps.abort_hit.Goals as goal
 
 pub after_access-requires : goal.after_access-requires
@@ -15,5 +21,15 @@ loop-k-preserved g c t cells =
     let near : c.loop-k.k < length c.args.heads.now = omega arith in
     mapped_more _ c.loop-k.k c.args.heads.now c.loop-k.heads new_head c.after_access.result near (c.loop-k.invariant t cells) (c.after_access.ensures t cells)
 
-pub returns : goal.returns
-returns g c t cells = mapped_all _ c.loop-k.k c.args.heads.now c.loop-k.heads (omega arith) (c.loop-k.invariant t cells)
+pub returns-clause-heads : goal.returns-clause-heads
+returns-clause-heads g c t cells = mapped_all _ c.loop-k.k c.args.heads.now c.loop-k.heads (omega arith) (c.loop-k.invariant t cells)
+
+pub returns-clause-bounds : goal.returns-clause-bounds
+returns-clause-bounds g c =
+    let hit = g.A.Access.hits c.args.access.now (g.B.Board.line c.args.board.now) in
+    let b = bench (new_table 0 0) [] c.args.reads.now c.args.writes.now in
+    let f = abort_if_hit b c.args.me hit in
+    subst (All HeadBounds) (sym (mapped_all f c.loop-k.k c.args.heads.now c.loop-k.heads (omega arith) (c.loop-k.invariant (new_table 0 0) [])))
+    (mapped_keeps HeadBounds f 0 c.args.heads.now
+    (λ j x p. cond_both (not (eqb j c.args.me) && (is_hardware x.state && hit (log_of j x.read_count c.args.reads.now) (log_of j x.write_count c.args.writes.now))) (abort Conflict x) x HeadBounds (λ _. abort-bounds x p Conflict) (λ _. p))
+    c.requires)
