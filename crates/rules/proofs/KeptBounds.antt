@@ -50,6 +50,7 @@ bounds-at-set-up heads cells t =
           eight = refl;
           few_heads = leb-true heads 8 (and_parts (leb 1 heads) (leb heads 8) p.0).1;
           few_cells = leb-true cells 1024 (and_parts (leb 1 cells) (leb cells 1024) p.1).1;
+          some_cells = leb-true 1 cells (and_parts (leb 1 cells) (leb cells 1024) p.1).0;
           opened = omega arith;
           numbered = All-replicate (λ (h : Head). h.transaction ≤ 0) 8 new_head (omega arith);
           used = omega arith;

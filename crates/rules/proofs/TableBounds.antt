@@ -74,6 +74,7 @@ module _ (t : Table) (s : InBounds t) (k : ℕ) (lt : k < 8) where
         eight = length-set ys k h ∙ len;
         few_heads = s.few_heads;
         few_cells = s.few_cells;
+        some_cells = s.some_cells;
         opened = le;
         numbered = All-set (λ (x : Head). x.transaction ≤ opened) ys k h number (swept-numbers t.heads ys t.opened opened more p s.numbered);
         used = omega (arith, s.used);
