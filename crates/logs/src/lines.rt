@@ -37,11 +37,7 @@ fn new_lines<W: Word, B: Board>(board: &B, log: &Log<'_, W>, other: &Log<'_, W>)
 
 // The number of different lines among the cells of both logs.
 #[tactic(auto, using(crate::proofs::Counted::lines_counted))]
-pub fn lines_touched<W: Word, B: Board>(
-    board: &B,
-    reads: &Log<'_, W>,
-    writes: &Log<'_, W>,
-) -> u16
+pub fn lines_touched<W: Word, B: Board>(board: &B, reads: &Log<'_, W>, writes: &Log<'_, W>) -> u16
     ensures count { result ≡ distinct_count (lines_of (B.Board.line board.now) (reads.now.slots.now ++ writes.now.slots.now)) }
     ensures bound { result ≤ 510 }
 {

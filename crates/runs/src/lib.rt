@@ -2,9 +2,9 @@
 #![tactic(auto)]
 
 mod calls;
-
+mod runs;
 mod types;
 
 pub use calls::make;
-
+pub use runs::run;
 pub use types::{Answer, Run, RunError, SetUp};

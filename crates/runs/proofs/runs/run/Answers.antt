@@ -1,0 +1,25 @@
+use Rattle.std.proofs.Common.{◌∙◌, ◌++◌, ap, Ok}
+use Rattle.rules.specs.Bench.{bench}
+use Rattle.rules.specs.Runs.{answers_of}
+use Rattle.rules.specs.Kit.{kit_of}
+use Rattle.rules.proofs.Lawful.{Lawful}
+use Rattle.runs.proofs.Whole.{set-up-gives, ran-from}
+use Rattle.runs.proofs.runs.run.Goals as goal
+
+pub returns-clause-ran : goal.returns-clause-ran
+returns-clause-ran g c =
+    let kit = kit_of g.W.Word g.B.Board g.P.Policy in
+    let law : Lawful (kit c.args.from.board c.args.from.policy) = record {
+      exact = g.met.W.Word.exact;
+      software_from_patience = g.met.P.Policy.software_from_patience c.args.from.policy;
+      at_least_one = g.met.P.Policy.at_least_one c.args.from.policy;
+    } in
+    let rig = c.in_ok-rig.rig in
+    let parts = c.in_ok-rig.ensures.parts in
+    ran-from (kit c.args.from.board c.args.from.policy) law c.args.from.heads c.args.from.cells c.args.cells.now c.args.reads.now c.args.writes.now c.args.calls.now
+    rig.table (kit rig.board rig.policy) _ (bench c.make_all.new.rig.table c.make_all.new.cells c.make_all.new.reads c.make_all.new.writes) c.in_ok-rig.ensures.table
+    (ap (λ x. kit x rig.policy) parts.0 ∙ ap (kit c.args.from.board) parts.1)
+    (c.make_all.ensures.answers ∙ ap (λ xs. xs ++ answers_of (kit rig.board rig.policy) (bench rig.table c.args.cells.now c.args.reads.now c.args.writes.now) c.args.calls.now) c.in_ok-answers.ensures.items) c.make_all.ensures.left
+
+pub returns-clause-set_up : goal.returns-clause-set_up
+returns-clause-set_up g c = c.in_ok-rig.ensures.table ∙ ap Ok (set-up-gives c.args.from.heads c.args.from.cells c.in_ok-rig.rig.table c.in_ok-rig.ensures.table)

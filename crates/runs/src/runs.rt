@@ -1,0 +1,54 @@
+// Whole runs.
+ghost use Rattle.std.specs.Prelude.{◌≡◌, ◌+◌, ◌++◌, ◌≤◌, IfErr, IfOk, length, vec_capacity, vec_items, vec_len};
+ghost use Rattle.rules.specs.Bench.{bench};
+ghost use Rattle.rules.specs.Calls.{new_table};
+ghost use Rattle.rules.specs.Kit.{kit_of};
+ghost use Rattle.rules.specs.Runs.{answers_of, left_by};
+ghost use Rattle.runs.specs.Ran.{Ran, SetUpAs};
+
+use crate::calls::make;
+use crate::types::{Answer, Run, RunError, SetUp};
+use parts::{Board, Policy, Word};
+use rig::Rig;
+use rules::{MadeCall, Slot};
+use std::alloc::Global;
+
+// Makes the calls in their order, and adds their answers, for which there is room.
+fn make_all<B: Board, P: Policy, W: Word>(
+    rig: &mut Rig<B, P>,
+    calls: &[MadeCall<W>],
+    cells: &mut [W],
+    reads: &mut [Slot<W>],
+    writes: &mut [Slot<W>],
+    answers: &mut Vec<Answer<W>>,
+)
+    requires { vec_len answers.old + length calls.now ≤ vec_capacity answers.old }
+    ensures answers { vec_items answers.new ≡ vec_items answers.old ++ answers_of (kit_of W.Word B.Board P.Policy rig.old.board rig.old.policy) (bench rig.old.table cells.old reads.old writes.old) calls.now }
+    ensures left { bench rig.new.table cells.new reads.new writes.new ≡ left_by (kit_of W.Word B.Board P.Policy rig.old.board rig.old.policy) (bench rig.old.table cells.old reads.old writes.old) calls.now }
+    ensures kept { (rig.new.board ≡ rig.old.board) × (rig.new.policy ≡ rig.old.policy) }
+{
+    for call in calls {
+        let answer = make(rig, *call, cells, reads, writes);
+        let _ = answers.push(answer);
+    }
+}
+
+// Sets a rig up and makes the calls on it, one after another. Where no call is made, the lists are as they were.
+pub fn run<B: Board + Drop, P: Policy + Drop, W: Word>(
+    heap: Global,
+    from: SetUp<B, P>,
+    calls: &[MadeCall<W>],
+    cells: &mut [W],
+    reads: &mut [Slot<W>],
+    writes: &mut [Slot<W>],
+) -> Result<Run<B, P, W>, RunError>
+    ensures ran { IfOk result (λ run. Ran (kit_of W.Word B.Board P.Policy from.board from.policy) (bench (new_table from.heads from.cells) cells.old reads.old writes.old) calls.now (vec_items run.answers) (bench run.rig.table cells.new reads.new writes.new)) }
+    ensures parts { IfOk result (λ run. (run.rig.board ≡ from.board) × (run.rig.policy ≡ from.policy)) }
+    ensures set_up { SetUpAs from.heads from.cells result }
+    ensures untouched { IfErr result (λ _. (cells.new ≡ cells.old) × (reads.new ≡ reads.old) × (writes.new ≡ writes.old)) }
+{
+    let mut rig = Rig::set_up(from.heads, from.cells, from.board, from.policy)?;
+    let mut answers = Vec::with_capacity(heap, calls.len())?;
+    make_all(&mut rig, calls, cells, reads, writes, &mut answers);
+    Ok(Run { rig, answers })
+}
