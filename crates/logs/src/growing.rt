@@ -67,8 +67,8 @@ impl<'a, W: Word> LogMut<'a, W> {
         place_of(self.part, self.count, cell)
     }
 
-    #[tactic(auto, using(crate::proofs::Placed::put_placed))]
     // Replaces the cell's slot, or adds one.
+    #[tactic(auto, using(crate::proofs::Placed::put_placed))]
     pub fn put(&mut self, cell: u32, word: W) -> Result<(), Refusal>
         ensures same_reference { self.new.part.ghost_name ≡ self.old.part.ghost_name }
         ensures grown { ◌≡◌ {A = Grown W} (record { answer = result; part = self.new.part.now; count = self.new.count }) (grown cell (put cell word (take self.old.count self.old.part.now)) self.old.part.now self.old.count) }
@@ -77,8 +77,8 @@ impl<'a, W: Word> LogMut<'a, W> {
         self.set_at(place, Slot { cell, word })
     }
 
-    #[tactic(auto, using(crate::proofs::Placed::note_named, crate::proofs::Placed::note_placed))]
     // Adds a slot, unless the log has one for the cell.
+    #[tactic(auto, using(crate::proofs::Placed::note_named, crate::proofs::Placed::note_placed))]
     pub fn note(&mut self, cell: u32, word: W) -> Result<(), Refusal>
         ensures same_reference { self.new.part.ghost_name ≡ self.old.part.ghost_name }
         ensures grown { ◌≡◌ {A = Grown W} (record { answer = result; part = self.new.part.now; count = self.new.count }) (grown cell (note cell word (take self.old.count self.old.part.now)) self.old.part.now self.old.count) }

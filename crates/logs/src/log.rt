@@ -74,7 +74,7 @@ impl<'a, W: Word> Log<'a, W> {
     {
         match self.word_for(cell) {
             Some(_) => false,
-            None => self.slots.len() >= 32,
+            None => self.len() >= 32,
         }
     }
 

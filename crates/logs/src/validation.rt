@@ -50,9 +50,9 @@ fn cells_there<W: Word>(cells: &[W], slot: &Slot<W>) -> usize
     }
 }
 
-#[tactic(auto, using(crate::proofs::Validated::all_hold, crate::proofs::Validated::all_loaded, crate::proofs::Validated::some_changed, crate::proofs::Validated::first_loaded))]
 // Takes the log in order, and stops at the first slot whose cell does not hold its word. A cell that is not there is
 // not loaded.
+#[tactic(auto, using(crate::proofs::Validated::all_hold, crate::proofs::Validated::all_loaded, crate::proofs::Validated::some_changed, crate::proofs::Validated::first_loaded))]
 pub fn validate<'a, W: Word>(cells: &[W], log: &Log<'a, W>) -> Validation<'a, W>
     ensures valid { result.valid ≡ list_all (holds W.Word.same cells.now) log.now.slots.now }
     ensures loaded { map (λ s. s.cell) result.loaded.slots.now ≡ cells_loaded W.Word.same cells.now log.now.slots.now }

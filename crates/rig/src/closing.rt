@@ -68,15 +68,16 @@ pub(crate) fn close<B: Board, W: Word>(
         state: State::Idle,
         ..me
     };
+    let told = Closing::Complete(me.attempts);
     if is_hardware(me) {
         log.put_into(cells);
         table.commits += 1;
         table.heads[who.head as usize] = done;
-        return Ok(Closing::Complete(me.attempts));
+        return Ok(told);
     }
     if log.is_empty() {
         table.heads[who.head as usize] = done;
-        return Ok(Closing::Complete(me.attempts));
+        return Ok(told);
     }
     if is_locked(table) {
         return Err(Refusal::Busy);

@@ -20,8 +20,8 @@ fn note_in_part<W: Word>(part: &mut [Slot<W>], count: u8, cell: u32, word: W) ->
     log.count() as u8
 }
 
-#[tactic(auto, using(crate::proofs::Noted::note_back))]
 // Notes a word in the log of a head, which has room for it, and gives the log's new count.
+#[tactic(auto, using(crate::proofs::Noted::note_back))]
 pub(crate) fn note_word<W: Word>(
     slots: &mut [Slot<W>],
     head: u32,
@@ -52,8 +52,8 @@ fn put_in_part<W: Word>(part: &mut [Slot<W>], count: u8, cell: u32, word: W) -> 
     log.count() as u8
 }
 
-#[tactic(auto, using(crate::proofs::Noted::put_back))]
 // Puts a word into the log of a head, which has room for it, and gives the log's new count.
+#[tactic(auto, using(crate::proofs::Noted::put_back))]
 pub(crate) fn put_word<W: Word>(
     slots: &mut [Slot<W>],
     head: u32,

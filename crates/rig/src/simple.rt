@@ -13,8 +13,8 @@ use crate::heads::{
 use parts::{Call, Cause, Mode, Policy, Word};
 use rules::{Caller, Head, Refusal, Slot, State, Table};
 
-#[tactic(auto, using(crate::proofs::Refused::refused))]
 // A new transaction of an idle head begins in hardware.
+#[tactic(auto, using(crate::proofs::Refused::refused))]
 pub(crate) fn open<W: Word>(
     table: &mut Table,
     who: Caller,
