@@ -1,9 +1,9 @@
 // The text of what a line says. Each enum of words has a match of its own: the words are all that they differ in.
-ghost use Rattle.std.specs.Prelude.{Some};
+ghost use Rattle.std.specs.Prelude.{◌≡◌, Some};
 ghost use Rattle.entries.specs.declared.types.Entry.TheVariants as entry;
-ghost use Rattle.entries.specs.Rendering.{board_text, policy_text, line_text};
+ghost use Rattle.entries.specs.Rendering.{board_text, policy_text, letter_text, letter_of, line_text};
 
-use crate::types::{BoardName, Entry, HeadCall, PolicyName, RigLine, Setting};
+use crate::types::{BoardName, Entry, HeadCall, Letter, PolicyName, RigLine, Setting};
 use parts::Call;
 use std::fmt;
 
@@ -26,6 +26,41 @@ impl fmt::Display for PolicyName {
             PolicyName::Plain => "plain",
             PolicyName::Careful => "careful",
         })
+    }
+}
+
+impl fmt::Display for Letter {
+    ghost output = { λ l. Some (letter_text l) };
+
+    fn fmt<W: fmt::Write>(&self, f: &mut fmt::Formatter<W>) -> fmt::Result {
+        f.write_str(match self {
+            Letter::Open => "o",
+            Letter::Read => "r",
+            Letter::Write => "w",
+            Letter::Close => "c",
+            Letter::Push => "p",
+            Letter::Jolt => "j",
+            Letter::Again => "a",
+            Letter::Drop => "d",
+        })
+    }
+}
+
+// The letter of a call, whatever it names.
+impl From<Call<u32, i32>> for Letter {
+    ghost from_gives = { λ call r. r ≡ letter_of call };
+
+    fn from(call: Call<u32, i32>) -> Letter {
+        match call {
+            Call::Open => Letter::Open,
+            Call::Read(_) => Letter::Read,
+            Call::Write(..) => Letter::Write,
+            Call::Close => Letter::Close,
+            Call::Push => Letter::Push,
+            Call::Jolt => Letter::Jolt,
+            Call::Again => Letter::Again,
+            Call::Drop => Letter::Drop,
+        }
     }
 }
 
@@ -57,15 +92,11 @@ impl fmt::Display for HeadCall {
 
     fn fmt<W: fmt::Write>(&self, f: &mut fmt::Formatter<W>) -> fmt::Result {
         let HeadCall { head, call } = *self;
+        let letter = Letter::from(call);
         match call {
-            Call::Open => write!(f, "o\t{head}"),
-            Call::Read(cell) => write!(f, "r\t{head}\t{cell}"),
-            Call::Write(cell, amount) => write!(f, "w\t{head}\t{cell}\t{amount}"),
-            Call::Close => write!(f, "c\t{head}"),
-            Call::Push => write!(f, "p\t{head}"),
-            Call::Jolt => write!(f, "j\t{head}"),
-            Call::Again => write!(f, "a\t{head}"),
-            Call::Drop => write!(f, "d\t{head}"),
+            Call::Read(cell) => write!(f, "{letter}\t{head}\t{cell}"),
+            Call::Write(cell, amount) => write!(f, "{letter}\t{head}\t{cell}\t{amount}"),
+            _ => write!(f, "{letter}\t{head}"),
         }
     }
 }

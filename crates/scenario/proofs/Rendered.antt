@@ -17,7 +17,7 @@ use Rattle.scenario.specs.Holdings.{rig_line, in_order}
 use Rattle.scenario.specs.Laws.{scenario_text}
 use Rattle.scenario.specs.Steps.{WritesLines}
 
-ended-append : (ls ms : List (List ℕ)) → ended 10 (ls ++ ms) ≡ ended 10 ls ++ ended 10 ms
+pub ended-append : (ls ms : List (List ℕ)) → ended 10 (ls ++ ms) ≡ ended 10 ls ++ ended 10 ms
 ended-append [] ms = refl
 ended-append (l ∷ ls) ms = ap (λ x. l ++ (10 ∷ x)) (ended-append ls ms) ∙ sym (append_assoc l (10 ∷ ended 10 ls) (ended 10 ms))
 

@@ -8,5 +8,6 @@ mod texts;
 mod types;
 
 pub use printed::readback;
+pub use render::write_lines;
 pub use texts::{check, read};
 pub use types::{ReadError, Reading, Scenario};

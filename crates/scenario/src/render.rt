@@ -10,7 +10,7 @@ use std::fmt;
 
 // Writes each item, on a line of its own.
 #[tactic(auto, using(crate::proofs::Rendered::no_lines, crate::proofs::Rendered::line_written, crate::proofs::Rendered::lines_written))]
-fn write_lines<T: fmt::Display, W: fmt::Write>(
+pub fn write_lines<T: fmt::Display, W: fmt::Write>(
     f: &mut fmt::Formatter<W>,
     items: &[T],
 ) -> fmt::Result
