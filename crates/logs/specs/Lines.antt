@@ -9,8 +9,8 @@ module _ {W : Type 0} (line : ℕ → ℕ) where
   abbrev pub shares_line : List (Slot W) → List (Slot W) → Bool
   shares_line log other = list_any (λ s. touches line (line s.cell) other) log
 
-  -- how many lines of the log come no more, neither later in it nor in the other log
-  abbrev pub new_lines : List (Slot W) → List (Slot W) → ℕ
-  new_lines [] other = 0
-  new_lines (s ∷ log) other =
-      if touches line (line s.cell) log || touches line (line s.cell) other then new_lines log other else suc (new_lines log other)
+  -- how many different lines of the log the other does not touch
+  abbrev pub own_lines : List (Slot W) → List (Slot W) → ℕ
+  own_lines [] other = 0
+  own_lines (s ∷ log) other =
+      if touches line (line s.cell) log || touches line (line s.cell) other then own_lines log other else suc (own_lines log other)

@@ -6,7 +6,8 @@ ghost use Rattle.logs.specs.Growth.{place_of, Grown, grown, placed};
 use parts::Word;
 use rules::{Refusal, Slot};
 
-// A head's part of the slots, and how many of them its log has.
+// A head's part of the slots, and how many of them its log has. Made in a function that is given the part alone: a
+// caller that makes one over a part of a longer list does not learn what the list then holds.
 #[derive(Drop)]
 pub struct LogMut<'a, W> {
     part: &'a mut [Slot<W>],
@@ -50,7 +51,9 @@ impl<'a, W: Word> LogMut<'a, W> {
     // Writes the slot at a place of the log, or at the one right behind it.
     fn set_at(&mut self, place: usize, slot: Slot<W>) -> Result<(), Refusal>
         ensures same_reference { self.new.part.ghost_name ≡ self.old.part.ghost_name }
-        ensures placed { ◌≡◌ {A = Grown W} (record { answer = result; part = self.new.part.now; count = self.new.count }) (placed place slot self.old.part.now self.old.count) }
+        ensures placed { ◌≡◌ {A = Grown W}
+            (record { answer = result; part = self.new.part.now; count = self.new.count })
+            (placed place slot self.old.part.now self.old.count) }
     {
         if place >= self.part.len() {
             return Err(Refusal::Full);
@@ -71,7 +74,9 @@ impl<'a, W: Word> LogMut<'a, W> {
     #[tactic(auto, using(crate::proofs::Placed::put_placed))]
     pub fn put(&mut self, cell: u32, word: W) -> Result<(), Refusal>
         ensures same_reference { self.new.part.ghost_name ≡ self.old.part.ghost_name }
-        ensures grown { ◌≡◌ {A = Grown W} (record { answer = result; part = self.new.part.now; count = self.new.count }) (grown cell (put cell word (take self.old.count self.old.part.now)) self.old.part.now self.old.count) }
+        ensures grown { ◌≡◌ {A = Grown W}
+            (record { answer = result; part = self.new.part.now; count = self.new.count })
+            (grown cell (put cell word (take self.old.count self.old.part.now)) self.old.part.now self.old.count) }
     {
         let place = self.place_for(cell);
         self.set_at(place, Slot { cell, word })
@@ -81,7 +86,9 @@ impl<'a, W: Word> LogMut<'a, W> {
     #[tactic(auto, using(crate::proofs::Placed::note_named, crate::proofs::Placed::note_placed))]
     pub fn note(&mut self, cell: u32, word: W) -> Result<(), Refusal>
         ensures same_reference { self.new.part.ghost_name ≡ self.old.part.ghost_name }
-        ensures grown { ◌≡◌ {A = Grown W} (record { answer = result; part = self.new.part.now; count = self.new.count }) (grown cell (note cell word (take self.old.count self.old.part.now)) self.old.part.now self.old.count) }
+        ensures grown { ◌≡◌ {A = Grown W}
+            (record { answer = result; part = self.new.part.now; count = self.new.count })
+            (grown cell (note cell word (take self.old.count self.old.part.now)) self.old.part.now self.old.count) }
     {
         let place = self.place_for(cell);
         if place < self.count {

@@ -1,7 +1,7 @@
 // Lines touched by an attempt.
-ghost use Rattle.std.specs.Prelude.{◌≡◌, ◌∷◌, ◌++◌, ◌||◌, ◌≤◌};
-ghost use Rattle.rules.specs.Logs.{touches, lines_of, distinct_count};
-ghost use Rattle.logs.specs.Lines.{new_lines};
+ghost use Rattle.std.specs.Prelude.{◌≡◌, ◌||◌, ◌≤◌};
+ghost use Rattle.rules.specs.Logs.{touches, lines_touched, lines_touched_with};
+ghost use Rattle.logs.specs.Lines.{own_lines};
 
 use crate::log::Log;
 use parts::{Board, Word};
@@ -13,14 +13,15 @@ fn either_touches<W: Word, B: Board>(
     one: &Log<'_, W>,
     other: &Log<'_, W>,
 ) -> bool
-    ensures { result ≡ (touches (B.Board.line board.now) line one.now.slots.now || touches (B.Board.line board.now) line other.now.slots.now) }
+    ensures { result
+        ≡ (touches (B.Board.line board.now) line one.now.slots.now || touches (B.Board.line board.now) line other.now.slots.now) }
 {
     one.touches(board, line) || other.touches(board, line)
 }
 
-// How many lines of the log come no more, neither later in it nor in the other log.
-fn new_lines<W: Word, B: Board>(board: &B, log: &Log<'_, W>, other: &Log<'_, W>) -> u16
-    ensures count { result ≡ new_lines (B.Board.line board.now) log.now.slots.now other.now.slots.now }
+// How many different lines of the log the other does not touch.
+fn own_lines<W: Word, B: Board>(board: &B, log: &Log<'_, W>, other: &Log<'_, W>) -> u16
+    ensures count { result ≡ own_lines (B.Board.line board.now) log.now.slots.now other.now.slots.now }
     ensures bound { result ≤ 255 }
 {
     let mut seen = 0;
@@ -38,14 +39,14 @@ fn new_lines<W: Word, B: Board>(board: &B, log: &Log<'_, W>, other: &Log<'_, W>)
 // The number of different lines among the cells of both logs.
 #[tactic(auto, using(crate::proofs::Counted::lines_counted))]
 pub fn lines_touched<W: Word, B: Board>(board: &B, reads: &Log<'_, W>, writes: &Log<'_, W>) -> u16
-    ensures count { result ≡ distinct_count (lines_of (B.Board.line board.now) (reads.now.slots.now ++ writes.now.slots.now)) }
+    ensures count { result ≡ lines_touched (B.Board.line board.now) reads.now.slots.now writes.now.slots.now }
     ensures bound { result ≤ 510 }
 {
     let none = writes.part(0, 0);
-    new_lines(board, reads, writes) + new_lines(board, writes, &none)
+    own_lines(board, reads, writes) + own_lines(board, writes, &none)
 }
 
-// The same with one cell more.
+// The same with one cell more, as a read of it would touch it.
 #[tactic(auto, using(crate::proofs::Counted::one_more, crate::proofs::Counted::none_more))]
 pub fn lines_touched_with<W: Word, B: Board>(
     board: &B,
@@ -53,7 +54,7 @@ pub fn lines_touched_with<W: Word, B: Board>(
     reads: &Log<'_, W>,
     writes: &Log<'_, W>,
 ) -> u16
-    ensures { result ≡ distinct_count (B.Board.line board.now cell ∷ lines_of (B.Board.line board.now) (reads.now.slots.now ++ writes.now.slots.now)) }
+    ensures { result ≡ lines_touched_with (B.Board.line board.now) cell reads.now.slots.now writes.now.slots.now }
 {
     let lines = lines_touched(board, reads, writes);
     if either_touches(board, board.line(cell), reads, writes) {

@@ -1,5 +1,5 @@
 // A log as it is looked into.
-ghost use Rattle.std.specs.Prelude.{◌≡◌, ℕ, ◌≤◌, length, take, drop};
+ghost use Rattle.std.specs.Prelude.{◌≡◌, ◌≤◌, length, take, drop};
 ghost use Rattle.rules.specs.Logs.{log_of, word_for, lacks_room_for, touches, is_empty, put_in};
 ghost use Rattle.logs.specs.Lines.{shares_line};
 
@@ -14,7 +14,7 @@ pub struct Log<'a, W> {
     ghost few: { length slots.now ≤ 255 },
 }
 
-// So many of the slots, from one on, as far as they go.
+// At most `count` of the slots, from the place `first` on.
 fn part_of<W>(slots: &[Slot<W>], first: usize, count: usize) -> &[Slot<W>]
     ensures part { result.now ≡ take count (drop first slots.now) }
     ensures within { length result.now ≤ length slots.now }
@@ -34,7 +34,7 @@ impl<'a, W: Word> Log<'a, W> {
         }
     }
 
-    // So many slots of the log, from one on, as far as it goes.
+    // At most `count` slots of the log, from the place `first` on.
     pub fn part(&self, first: usize, count: usize) -> Log<'a, W>
         ensures { result.slots.now ≡ take count (drop first self.now.slots.now) }
     {

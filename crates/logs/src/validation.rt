@@ -7,7 +7,7 @@ use crate::log::Log;
 use parts::Word;
 use rules::Slot;
 
-// What validation finds: the slots whose cells it has loaded, and whether every cell holds its slot's word still.
+// What validation finds: slots with the cells that it has loaded, and whether every cell holds its slot's word still.
 #[derive(Drop)]
 pub struct Validation<'a, W> {
     pub loaded: Log<'a, W>,
@@ -55,7 +55,8 @@ fn cells_there<W: Word>(cells: &[W], slot: &Slot<W>) -> usize
 #[tactic(auto, using(crate::proofs::Validated::all_hold, crate::proofs::Validated::all_loaded, crate::proofs::Validated::some_changed, crate::proofs::Validated::first_loaded))]
 pub fn validate<'a, W: Word>(cells: &[W], log: &Log<'a, W>) -> Validation<'a, W>
     ensures valid { result.valid ≡ list_all (holds W.Word.same cells.now) log.now.slots.now }
-    ensures loaded { map (λ s. s.cell) result.loaded.slots.now ≡ cells_loaded W.Word.same cells.now log.now.slots.now }
+    ensures loaded { map (λ s. s.cell) result.loaded.slots.now
+        ≡ cells_loaded W.Word.same cells.now log.now.slots.now }
 {
     let held = unchanged(cells, log);
     if held >= log.len() {

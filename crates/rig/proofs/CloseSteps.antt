@@ -19,6 +19,7 @@ use Rattle.rules.specs.Bench.{Bench, bench, head_at, after_loads, lock_out, is_v
 use Rattle.rules.specs.Refusals.{when, first_found}
 use Rattle.rules.specs.Calls.{Outcome, outcome, unless, aborts_in, becomes, start_write_back, hardware_close, software_close, close_of}
 use Rattle.rules.proofs.Basics.{by-test}
+use Rattle.rig.proofs.Changed.{changed}
 use Rattle.rig.specs.Admission.{Admits}
 
 module _ {W : Type 0} (kit : Kit W) (b : Bench W) (k : ℕ) (me : Head) (own : me ≡ head_at b k) where
@@ -30,10 +31,7 @@ module _ {W : Type 0} (kit : Kit W) (b : Bench W) (k : ℕ) (me : Head) (own : m
 
   pub closed_changed : (ys : List Head) (h : Head) (loaded : List ℕ) → h ≡ abort Changed me → is_valid kit b k ≡ false → loaded ≡ cells_validated kit b k
       → ys ≡ after_loads kit b k (loaded ++ []) → outcome (Err (refuse.Aborted Changed)) (bench (record b.table { heads = set ys k h }) b.cells b.reads b.writes) ≡ software_close kit b k
-  closed_changed ys h loaded eh valid el es =
-      ap (λ x. outcome (Err (refuse.Aborted Changed)) (bench (record b.table { heads = set ys k x }) b.cells b.reads b.writes)) (eh ∙ ap (abort Changed) own)
-      ∙ ap (λ zs. outcome (Err (refuse.Aborted Changed)) (bench (record b.table { heads = set zs k (abort Changed (head_at b k)) }) b.cells b.reads b.writes)) (es ∙ ap (after_loads kit b k) (append-nil loaded ∙ el))
-      ∙ sym (valid-is false valid)
+  closed_changed ys h loaded eh valid el es = changed kit b k me own ys h loaded eh el es ∙ sym (valid-is false valid)
 
   pub closed_locked : (ys zs : List Head) (s : Snapshot) (loaded : List ℕ) → s ≡ present_snapshot b.table → is_valid kit b k ≡ true → loaded ≡ cells_validated kit b k
       → ys ≡ after_loads kit b k (loaded ++ []) → zs ≡ map lock_out ys

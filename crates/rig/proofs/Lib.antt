@@ -1,3 +1,4 @@
+mod Changed
 mod CloseSteps
 mod Hits
 mod KeptInBounds

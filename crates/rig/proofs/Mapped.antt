@@ -53,3 +53,9 @@ module _ {X : Type 0} where
   pub mapped_keeps : (P : X → Type 0) (f : ℕ → X → X) (j : ℕ) (xs : List X) → ((i : ℕ) (x : X) → P x → P (f i x)) → All P xs → All P (map_at f j xs)
   mapped_keeps P f j [] keep all = All-nil P
   mapped_keeps P f j (x ∷ xs) keep all = All-cons P (f j x) (map_at f (j + 1) xs) (keep j x (All-head P x xs all)) (mapped_keeps P f (j + 1) xs keep (All-tail P x xs all))
+
+  -- maps that do the same to each element
+  pub map_alike : (P : X → Type 0) (f g : ℕ → X → X) (i : ℕ) (xs : List X) → ((j : ℕ) (x : X) → P x → f j x ≡ g j x) → All P xs → map_at f i xs ≡ map_at g i xs
+  map_alike P f g i [] e all = refl
+  map_alike P f g i (x ∷ xs) e all =
+      ap (λ y. y ∷ map_at f (i + 1) xs) (e i x (All-head P x xs all)) ∙ ap (λ ys. g i x ∷ ys) (map_alike P f g (i + 1) xs e (All-tail P x xs all))

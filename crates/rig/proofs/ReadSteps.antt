@@ -1,7 +1,6 @@
 -- A read, put together from its steps.
 use Rattle.std.proofs.Common.{◌≡◌, ℕ, true, cond, List, [], ◌∷◌, ◌++◌, length, get_or, set, Some, Ok, sym, ap, ◌∙◌, subst, false, Err}
 use Rattle.std.specs.List.{slice_get}
-use Rattle.std.proofs.lemmas.List.{append-nil}
 use Rattle.rules.specs.declared.types.Refusal.TheVariants as refuse
 use Rattle.std.proofs.lemmas.Option.{get_or_from_slice_get}
 use Rattle.parts.specs.declared.types.Cause.TheVariants.{Capacity, Changed}
@@ -13,6 +12,7 @@ use Rattle.rules.specs.Kit.{Kit}
 use Rattle.rules.specs.Logs.{note, lines_of, distinct_count, log_of, slots_with}
 use Rattle.rules.specs.Bench.{Bench, bench, head_at, after_loads, present_snapshot, is_valid, cells_validated}
 use Rattle.rules.specs.Calls.{outcome, notes_word, fits_read, hardware_read, aborts_in, software_read}
+use Rattle.rig.proofs.Changed.{changed}
 
 module _ {W : Type 0} (kit : Kit W) (b : Bench W) (k c : ℕ) (me : Head) (own : me ≡ head_at b k) where
   noted : (heads ys : List Head) (h : Head) (n : ℕ) (slots : List (Slot W)) (v w : W)
@@ -56,7 +56,5 @@ module _ {W : Type 0} (kit : Kit W) (b : Bench W) (k c : ℕ) (me : Head) (own :
       → h ≡ abort Changed me → is_valid kit b k ≡ false → loaded ≡ cells_validated kit b k → ys ≡ after_loads kit b k (loaded ++ [])
       → outcome (Err (refuse.Aborted Changed)) (bench (record b.table { heads = set ys k h }) b.cells b.reads b.writes) ≡ software_read kit b k c w
   software_changed ys h loaded w eh valid el es =
-      ap (λ x. outcome (Err (refuse.Aborted Changed)) (bench (record b.table { heads = set ys k x }) b.cells b.reads b.writes)) eh
-      ∙ ap (λ zs. outcome (Err (refuse.Aborted Changed)) (bench (record b.table { heads = set zs k (abort Changed me) }) b.cells b.reads b.writes)) (es ∙ ap (after_loads kit b k) (append-nil loaded ∙ el))
-      ∙ ap (λ h. aborts_in b k (after_loads kit b k (cells_validated kit b k)) Changed h) own
+      changed kit b k me own ys h loaded eh el es
       ∙ sym (ap (λ t. cond t (notes_word kit b k (after_loads kit b k (cells_validated kit b k ++ (c ∷ []))) (record (head_at b k) { snapshot = present_snapshot b.table }) c w) (aborts_in b k (after_loads kit b k (cells_validated kit b k)) Changed (head_at b k))) valid)

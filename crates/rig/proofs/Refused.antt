@@ -1,5 +1,5 @@
 -- What the first rows of the refusals find, all of them find.
-use Rattle.std.proofs.Common.{◌≡◌, ℕ, zero, suc, List, [], ◌∷◌, take, drop, Some, None, Ok, Err, Option, sym, refl}
+use Rattle.std.proofs.Common.{◌≡◌, ℕ, zero, suc, List, [], ◌∷◌, take, Some, None, Err, Option, sym, refl}
 use Rattle.parts.specs.declared.calls.Call.{Call}
 use Rattle.rules.specs.declared.types.Caller.{Caller}
 use Rattle.rules.specs.declared.types.Head.{Head}
@@ -15,12 +15,6 @@ found-first (suc n) [] e q = q
 found-first (suc n) (None ∷ rows) e q = found-first n rows e q
 found-first (suc n) (Some x ∷ rows) e q = q
 
-none-first : (n : ℕ) (rows : List (Option Refusal)) → first_found (take n rows) ≡ None → first_found rows ≡ first_found (drop n rows)
-none-first zero rows q = refl
-none-first (suc n) [] q = refl
-none-first (suc n) (None ∷ rows) q = none-first n rows q
-none-first (suc n) (Some x ∷ rows) q = cc
-
 module _ {W : Type 0} (b : Bench W) (who : Caller) (call : Call ℕ W) where
   by-err : (o : Option Refusal) (h : Head) (e : Refusal) → or_refuse o h ≡ Err e → o ≡ Some e
   by-err None h e q = cc
@@ -32,14 +26,3 @@ module _ {W : Type 0} (b : Bench W) (who : Caller) (call : Call ℕ W) where
   -- a head that is not admitted is refused, and nothing has changed
   pub refused : {A : Type 0} (e : Refusal) (granted : Outcome A W) → Err e ≡ admission b who call → outcome (Err e) b ≡ unless (refusal b who call) b granted
   refused e granted q = rw (found e q) refl
-
-  by-ok : (o : Option Refusal) (h g : Head) → or_refuse o h ≡ Ok g → (o ≡ None) × (g ≡ h)
-  by-ok None h g q = (refl, cc)
-  by-ok (Some x) h g q = cc
-
-  -- a head that is admitted is the calling head, and the rows that are left decide
-  pub admitted_head : (g : Head) → Ok g ≡ admission b who call → g ≡ head_at b who.head
-  admitted_head g q = (by-ok (first_found (take 5 (refusals b who call))) (head_at b who.head) g (sym q)).1
-
-  pub rows_left : (g : Head) → Ok g ≡ admission b who call → refusal b who call ≡ first_found (drop 5 (refusals b who call))
-  rows_left g q = none-first 5 (refusals b who call) (by-ok (first_found (take 5 (refusals b who call))) (head_at b who.head) g (sym q)).0

@@ -2,7 +2,6 @@
 use Rattle.std.proofs.Common.{◌≡◌, ℕ, ◌+◌, ◌*◌, ◌≤◌, true, false, cond, not, ◌&&◌, eqb, List, [], ◌∷◌, ◌++◌, length, set, Ok, Err, Option, sym, refl, ap, ◌∙◌, subst, All, arith}
 use Rattle.std.proofs.lemmas.Bool.{eqb-false}
 use Rattle.std.proofs.lemmas.List.{take_all}
-use Rattle.std.proofs.lemmas.List.Elements.{All-head, All-tail}
 use Rattle.parts.specs.declared.types.Cause.TheVariants.{Capacity, Conflict}
 use Rattle.parts.specs.declared.calls.Call.TheVariants.{Write}
 use Rattle.rules.specs.declared.types.Caller.{Caller}
@@ -14,7 +13,7 @@ use Rattle.rules.specs.Kit.{Kit}
 use Rattle.rules.specs.Logs.{put, lacks_room_for, lines_of, distinct_count, log_of, slots_with}
 use Rattle.rules.specs.Heads.{abort, is_hardware, stores_after}
 use Rattle.rules.specs.Bounds.{HeadBounds}
-use Rattle.rules.specs.Bench.{Bench, bench, head_at, map_at, abort_if_hit, hit_by_store, after_store}
+use Rattle.rules.specs.Bench.{Bench, bench, head_at, abort_if_hit, hit_by_store, after_store}
 use Rattle.rules.specs.Refusals.{when, first_found}
 use Rattle.rules.specs.Calls.{Outcome, outcome, unless, leaves, puts_word, hardware_write, write_of}
 use Rattle.rules.proofs.Basics.{by-test}
@@ -28,6 +27,7 @@ use Rattle.rules.proofs.LogLaws.{length-log, few-put}
 use Rattle.rules.proofs.Laid.{log-laid-own, log-laid-other}
 use Rattle.rig.specs.Admission.{Admits}
 use Rattle.rig.specs.Stores.{stored}
+use Rattle.rig.proofs.Mapped.{map_alike}
 
 module _ {W : Type 0} (kit : Kit W) (b : Bench W) (k : ℕ) (h : Head) (c : ℕ) where
   pub stored_ok : (ys : List Head)
@@ -37,21 +37,16 @@ module _ {W : Type 0} (kit : Kit W) (b : Bench W) (k : ℕ) (h : Head) (c : ℕ)
       ap (λ zs. outcome (Ok tt) (bench (record b.table { heads = set zs k h }) b.cells b.reads b.writes)) es
       ∙ sym (ap (λ t. cond t (outcome (Ok tt) (bench (record b.table { heads = set (after_store kit b k c) k h }) b.cells b.reads b.writes)) (leaves b (Err (refuse.Aborted Capacity)) (record b.table { heads = set b.table.heads k (abort Capacity h) }))) fits)
 
--- maps that do the same to each element
-map_alike : {X : Type 0} (P : X → Type 0) (f g : ℕ → X → X) (i : ℕ) (xs : List X) → ((j : ℕ) (x : X) → P x → f j x ≡ g j x) → All P xs → map_at f i xs ≡ map_at g i xs
-map_alike P f g i [] e all = refl
-map_alike P f g i (x ∷ xs) e all = ap (λ y. y ∷ map_at f (i + 1) xs) (e i x (All-head P x xs all)) ∙ ap (λ ys. g i x ∷ ys) (map_alike P f g (i + 1) xs e (All-tail P x xs all))
-
 -- the word is in the head's log, and the slots of the others are as they were
 module _ {W : Type 0} (kit : Kit W) (b : Bench W) (k c : ℕ) (log : List (Slot W)) (few : length log ≤ 32) (room : 32 * k + 32 ≤ length b.writes) where
   abbrev put_bench : Bench W
   put_bench = record b { writes = slots_with k log b.writes }
 
-  hits-alike : (j : ℕ) (x : Head) → HeadBounds x → abort_if_hit put_bench k (hit_by_store kit c) j x ≡ abort_if_hit b k (hit_by_store kit c) j x
+  hits-alike : (j : ℕ) (x : Head) → HeadBounds x → abort_if_hit put_bench k (hit_by_store kit.line c) j x ≡ abort_if_hit b k (hit_by_store kit.line c) j x
   hits-alike j x bounds =
-      by-test (eqb j k) (λ t. cond (not t && (is_hardware x.state && hit_by_store kit c (log_of j x.read_count b.reads) (log_of j x.write_count (slots_with k log b.writes)))) (abort Conflict x) x ≡ cond (not t && (is_hardware x.state && hit_by_store kit c (log_of j x.read_count b.reads) (log_of j x.write_count b.writes))) (abort Conflict x) x)
+      by-test (eqb j k) (λ t. cond (not t && (is_hardware x.state && hit_by_store kit.line c (log_of j x.read_count b.reads) (log_of j x.write_count (slots_with k log b.writes)))) (abort Conflict x) x ≡ cond (not t && (is_hardware x.state && hit_by_store kit.line c (log_of j x.read_count b.reads) (log_of j x.write_count b.writes))) (abort Conflict x) x)
       (λ _. refl)
-      (λ ne. ap (λ l. cond (is_hardware x.state && hit_by_store kit c (log_of j x.read_count b.reads) l) (abort Conflict x) x) (log-laid-other k log b.writes few room j x.write_count (eqb-false j k ne) bounds.writes))
+      (λ ne. ap (λ l. cond (is_hardware x.state && hit_by_store kit.line c (log_of j x.read_count b.reads) l) (abort Conflict x) x) (log-laid-other k log b.writes few room j x.write_count (eqb-false j k ne) bounds.writes))
 
   stored-put : (h : Head) → h.write_count ≡ length log → h.read_count ≡ (head_at b k).read_count → All HeadBounds b.table.heads
       → stored kit put_bench k h c ≡ hardware_write kit b k c log h

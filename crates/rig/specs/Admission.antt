@@ -1,4 +1,4 @@
--- What is looked for before a head's logs are: whether there is such a head and such a cell, and whether its state takes the call.
+-- What is looked for before the logs: lists, head, handle, cell, and whether the state takes the call.
 use Rattle.std.specs.Prelude.{◌≡◌, ℕ, ◌*◌, ◌<◌, ◌≤◌, true, false, length, take, drop, Some, None, Ok, Err, Option, Result}
 use Rattle.parts.specs.declared.calls.Call.{Call}
 use Rattle.rules.specs.declared.types.Caller.{Caller}
@@ -8,6 +8,7 @@ use Rattle.rules.specs.Bench.{Bench, head_at}
 use Rattle.rules.specs.Bounds.{HeadBounds}
 use Rattle.rules.specs.Refusals.{first_found, refusal, refusals, takes, is_beyond}
 
+-- unless there is a refusal
 abbrev pub or_refuse : {X : Type 0} → Option Refusal → X → Result X Refusal
 or_refuse None x = Ok x
 or_refuse (Some e) x = Err e

@@ -7,7 +7,7 @@ use logs::LogMut;
 use parts::Word;
 use rules::Slot;
 
-// The same in the head's part of the slots.
+// Notes a word in a log that has room for it, over its head's part alone, and gives the new count.
 fn note_in_part<W: Word>(part: &mut [Slot<W>], count: u8, cell: u32, word: W) -> u8
     requires size { length part.old ≡ 32 }
     requires few { count ≤ 32 }
@@ -39,7 +39,7 @@ pub(crate) fn note_word<W: Word>(
     note_in_part(&mut slots[first..first + 32], count, cell, word)
 }
 
-// The same in the head's part of the slots.
+// Puts a word into a log that has room for it, over its head's part alone, and gives the new count.
 fn put_in_part<W: Word>(part: &mut [Slot<W>], count: u8, cell: u32, word: W) -> u8
     requires size { length part.old ≡ 32 }
     requires few { count ≤ 32 }

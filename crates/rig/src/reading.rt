@@ -1,13 +1,13 @@
 // The call that reads.
-ghost use Rattle.std.specs.Prelude.{◌≡◌, ◌∷◌, ◌++◌, ◌<◌, ◌≤◌, false, length, Some};
+ghost use Rattle.std.specs.Prelude.{None, if◌then◌else◌, ◌≡◌, ◌∷◌, ◌++◌, ◌<◌, ◌≤◌, false, length, Some};
 ghost use Rattle.std.specs.List.{slice_get};
 ghost use Rattle.parts.specs.declared.calls.Call.TheVariants as calls;
 ghost use Rattle.rules.specs.Bench.{bench};
 ghost use Rattle.rules.specs.Bounds.{InBounds};
 ghost use Rattle.rules.specs.Calls.{outcome, read_of, hardware_read, software_read};
-ghost use Rattle.rules.specs.Logs.{distinct_count, lacks_room_for, lines_of, log_of};
+ghost use Rattle.rules.specs.Logs.{lacks_room_for, lines_touched_with, log_of};
 ghost use Rattle.rig.specs.Admission.{Admits};
-ghost use Rattle.rig.specs.Kits.{AnyPolicy, kit_under};
+ghost use Rattle.rig.specs.Kits.{PolicyParts, kit_under};
 
 use crate::admission::admit;
 use crate::heads::{abort, is_hardware, must_wait, present_snapshot};
@@ -27,7 +27,8 @@ fn fits_with<B: Board, W: Word>(
     reads: &[Slot<W>],
     writes: &[Slot<W>],
 ) -> bool
-    ensures { result ≡ B.Board.fits board.now me.stores (distinct_count (B.Board.line board.now cell ∷ lines_of (B.Board.line board.now) (log_of head me.read_count reads.now ++ log_of head me.write_count writes.now))) }
+    ensures { result
+        ≡ B.Board.fits board.now me.stores (lines_touched_with (B.Board.line board.now) cell (log_of head me.read_count reads.now) (log_of head me.write_count writes.now)) }
 {
     let read_log = Log::of_head(reads, head, me.read_count);
     let write_log = Log::of_head(writes, head, me.write_count);
@@ -51,7 +52,9 @@ fn read_in_hardware<B: Board, W: Word>(
     requires bounds { InBounds table.old }
     requires admitted { Admits (bench table.old cells.now reads.old writes.now) who (calls.Read cell) me }
     requires room { lacks_room_for cell (log_of who.head me.read_count reads.old) ≡ false }
-    ensures { (p : AnyPolicy) (w : W) → slice_get cells.now cell ≡ Some w → outcome result (bench table.new cells.now reads.new writes.now) ≡ hardware_read (kit_under p W.Word B.Board board.now) (bench table.old cells.now reads.old writes.now) who.head cell w }
+    ensures { (p : PolicyParts) (w : W) →
+        slice_get cells.now cell ≡ Some w → outcome result (bench table.new cells.now reads.new writes.now)
+        ≡ hardware_read (kit_under p W.Word B.Board board.now) (bench table.old cells.now reads.old writes.now) who.head cell w }
 {
     if !fits_with(board, who.head, me, cell, reads, writes) {
         table.heads[who.head as usize] = abort(me, Cause::Capacity);
@@ -68,6 +71,13 @@ fn read_in_hardware<B: Board, W: Word>(
     Ok(word)
 }
 
+// The cell, to be loaded only if validation has found no change.
+fn loaded_if(valid: bool, cell: u32) -> Option<u32>
+    ensures { result ≡ (if valid then Some cell else None) }
+{
+    if valid { Some(cell) } else { None }
+}
+
 // Reads the cell and notes its word; in software, if what was read before is still valid.
 fn read_in_software<B: Board, W: Word>(
     table: &mut Table,
@@ -82,23 +92,20 @@ fn read_in_software<B: Board, W: Word>(
     requires bounds { InBounds table.old }
     requires admitted { Admits (bench table.old cells.now reads.old writes.now) who (calls.Read cell) me }
     requires room { lacks_room_for cell (log_of who.head me.read_count reads.old) ≡ false }
-    ensures { (p : AnyPolicy) (w : W) → slice_get cells.now cell ≡ Some w → outcome result (bench table.new cells.now reads.new writes.now) ≡ software_read (kit_under p W.Word B.Board board.now) (bench table.old cells.now reads.old writes.now) who.head cell w }
+    ensures { (p : PolicyParts) (w : W) →
+        slice_get cells.now cell ≡ Some w → outcome result (bench table.new cells.now reads.new writes.now)
+        ≡ software_read (kit_under p W.Word B.Board board.now) (bench table.old cells.now reads.old writes.now) who.head cell w }
 {
     let found = revalidate(table, who.head, cells, reads);
+    let access = Loads {
+        log: found.loaded,
+        cell: loaded_if(found.valid, cell),
+    };
+    abort_hit(&mut table.heads, who.head, board, &access, reads, writes);
     if !found.valid {
-        let access = Loads {
-            log: found.loaded,
-            cell: None,
-        };
-        abort_hit(&mut table.heads, who.head, board, &access, reads, writes);
         table.heads[who.head as usize] = abort(me, Cause::Changed);
         return Err(Refusal::Aborted(Cause::Changed));
     }
-    let access = Loads {
-        log: found.loaded,
-        cell: Some(cell),
-    };
-    abort_hit(&mut table.heads, who.head, board, &access, reads, writes);
     let snapshot = present_snapshot(table);
     let word = cells[cell as usize];
     let read_count = note_word(reads, who.head, me.read_count, cell, word);
@@ -121,7 +128,9 @@ pub(crate) fn read<B: Board, W: Word>(
     writes: &[Slot<W>],
 ) -> Result<W, Refusal>
     requires { InBounds table.old }
-    ensures { (p : AnyPolicy) → outcome result (bench table.new cells.now reads.new writes.now) ≡ read_of (kit_under p W.Word B.Board board.now) (bench table.old cells.now reads.old writes.now) who cell }
+    ensures { (p : PolicyParts) →
+        outcome result (bench table.new cells.now reads.new writes.now)
+        ≡ read_of (kit_under p W.Word B.Board board.now) (bench table.old cells.now reads.old writes.now) who cell }
 {
     let me = admit(table, who, Call::Read(cell), cells, reads, writes)?;
     let write_log = Log::of_head(writes, who.head, me.write_count);

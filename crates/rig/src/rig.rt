@@ -4,7 +4,8 @@ ghost use Rattle.parts.specs.declared.types.Mode.{Mode as Modes};
 ghost use Rattle.rules.specs.Kit.{kit_of};
 ghost use Rattle.rules.specs.Bench.{bench};
 ghost use Rattle.rules.specs.Bounds.{InBounds};
-ghost use Rattle.rules.specs.Calls.{outcome, set_up, open_of, read_of, write_of, close_of, push_of, jolt_of, again_of, drop_of};
+ghost use Rattle.rules.specs.Calls.{outcome, set_up, open_of, push_of, jolt_of, drop_of};
+ghost use Rattle.rules.specs.Calls.{read_of, write_of, close_of, again_of};
 
 use crate::closing::close;
 use crate::reading::read;
@@ -73,7 +74,8 @@ impl<B: Board, P: Policy> Rig<B, P> {
         reads: &[Slot<W>],
         writes: &[Slot<W>],
     ) -> Result<Mode, Refusal>
-        ensures outcome { outcome result (bench self.new.table cells.now reads.now writes.now) ≡ open_of (bench self.old.table cells.now reads.now writes.now) who }
+        ensures outcome { outcome result (bench self.new.table cells.now reads.now writes.now)
+            ≡ open_of (bench self.old.table cells.now reads.now writes.now) who }
         ensures kept { (self.new.board ≡ self.old.board) × (self.new.policy ≡ self.old.policy) }
     {
         open(&mut self.table, who, cells, reads, writes)
@@ -88,7 +90,9 @@ impl<B: Board, P: Policy> Rig<B, P> {
         reads: &mut [Slot<W>],
         writes: &[Slot<W>],
     ) -> Result<W, Refusal>
-        ensures outcome { outcome result (bench self.new.table cells.now reads.new writes.now) ≡ read_of (kit_of W.Word B.Board P.Policy self.old.board self.old.policy) (bench self.old.table cells.now reads.old writes.now) who cell }
+        ensures outcome { let kit = kit_of W.Word B.Board P.Policy self.old.board self.old.policy in
+            let before = bench self.old.table cells.now reads.old writes.now in
+            outcome result (bench self.new.table cells.now reads.new writes.now) ≡ read_of kit before who cell }
         ensures kept { (self.new.board ≡ self.old.board) × (self.new.policy ≡ self.old.policy) }
     {
         read(
@@ -112,7 +116,9 @@ impl<B: Board, P: Policy> Rig<B, P> {
         reads: &[Slot<W>],
         writes: &mut [Slot<W>],
     ) -> Result<(), Refusal>
-        ensures outcome { outcome result (bench self.new.table cells.now reads.now writes.new) ≡ write_of (kit_of W.Word B.Board P.Policy self.old.board self.old.policy) (bench self.old.table cells.now reads.now writes.old) who cell word }
+        ensures outcome { let kit = kit_of W.Word B.Board P.Policy self.old.board self.old.policy in
+            let before = bench self.old.table cells.now reads.now writes.old in
+            outcome result (bench self.new.table cells.now reads.now writes.new) ≡ write_of kit before who cell word }
         ensures kept { (self.new.board ≡ self.old.board) × (self.new.policy ≡ self.old.policy) }
     {
         write(
@@ -135,7 +141,9 @@ impl<B: Board, P: Policy> Rig<B, P> {
         reads: &[Slot<W>],
         writes: &[Slot<W>],
     ) -> Result<Closing, Refusal>
-        ensures outcome { outcome result (bench self.new.table cells.new reads.now writes.now) ≡ close_of (kit_of W.Word B.Board P.Policy self.old.board self.old.policy) (bench self.old.table cells.old reads.now writes.now) who }
+        ensures outcome { let kit = kit_of W.Word B.Board P.Policy self.old.board self.old.policy in
+            let before = bench self.old.table cells.old reads.now writes.now in
+            outcome result (bench self.new.table cells.new reads.now writes.now) ≡ close_of kit before who }
         ensures kept { (self.new.board ≡ self.old.board) × (self.new.policy ≡ self.old.policy) }
     {
         close(&mut self.table, &self.board, who, cells, reads, writes)
@@ -149,7 +157,8 @@ impl<B: Board, P: Policy> Rig<B, P> {
         reads: &[Slot<W>],
         writes: &[Slot<W>],
     ) -> Result<u8, Refusal>
-        ensures outcome { outcome result (bench self.new.table cells.new reads.now writes.now) ≡ push_of (bench self.old.table cells.old reads.now writes.now) who }
+        ensures outcome { outcome result (bench self.new.table cells.new reads.now writes.now)
+            ≡ push_of (bench self.old.table cells.old reads.now writes.now) who }
         ensures kept { (self.new.board ≡ self.old.board) × (self.new.policy ≡ self.old.policy) }
     {
         push(&mut self.table, who, cells, reads, writes)
@@ -163,7 +172,8 @@ impl<B: Board, P: Policy> Rig<B, P> {
         reads: &[Slot<W>],
         writes: &[Slot<W>],
     ) -> Result<(), Refusal>
-        ensures outcome { outcome result (bench self.new.table cells.now reads.now writes.now) ≡ jolt_of (bench self.old.table cells.now reads.now writes.now) who }
+        ensures outcome { outcome result (bench self.new.table cells.now reads.now writes.now)
+            ≡ jolt_of (bench self.old.table cells.now reads.now writes.now) who }
         ensures kept { (self.new.board ≡ self.old.board) × (self.new.policy ≡ self.old.policy) }
     {
         jolt(&mut self.table, who, cells, reads, writes)
@@ -177,7 +187,9 @@ impl<B: Board, P: Policy> Rig<B, P> {
         reads: &[Slot<W>],
         writes: &[Slot<W>],
     ) -> Result<Mode, Refusal>
-        ensures outcome { outcome result (bench self.new.table cells.now reads.now writes.now) ≡ again_of (kit_of W.Word B.Board P.Policy self.old.board self.old.policy) (bench self.old.table cells.now reads.now writes.now) who }
+        ensures outcome { let kit = kit_of W.Word B.Board P.Policy self.old.board self.old.policy in
+            let before = bench self.old.table cells.now reads.now writes.now in
+            outcome result (bench self.new.table cells.now reads.now writes.now) ≡ again_of kit before who }
         ensures kept { (self.new.board ≡ self.old.board) × (self.new.policy ≡ self.old.policy) }
     {
         again(&mut self.table, &self.policy, who, cells, reads, writes)
@@ -191,7 +203,8 @@ impl<B: Board, P: Policy> Rig<B, P> {
         reads: &[Slot<W>],
         writes: &[Slot<W>],
     ) -> Result<(), Refusal>
-        ensures outcome { outcome result (bench self.new.table cells.now reads.now writes.now) ≡ drop_of (bench self.old.table cells.now reads.now writes.now) who }
+        ensures outcome { outcome result (bench self.new.table cells.now reads.now writes.now)
+            ≡ drop_of (bench self.old.table cells.now reads.now writes.now) who }
         ensures kept { (self.new.board ≡ self.old.board) × (self.new.policy ≡ self.old.policy) }
     {
         cancel(&mut self.table, who, cells, reads, writes)

@@ -23,7 +23,8 @@ pub(crate) fn open<W: Word>(
     writes: &[Slot<W>],
 ) -> Result<Mode, Refusal>
     requires { InBounds table.old }
-    ensures { outcome result (bench table.new cells.now reads.now writes.now) ≡ open_of (bench table.old cells.now reads.now writes.now) who }
+    ensures { outcome result (bench table.new cells.now reads.now writes.now)
+        ≡ open_of (bench table.old cells.now reads.now writes.now) who }
 {
     let me = admit(table, who, Call::Open, cells, reads, writes)?;
     if is_locked(table) {
@@ -47,7 +48,8 @@ pub(crate) fn jolt<W: Word>(
     writes: &[Slot<W>],
 ) -> Result<(), Refusal>
     requires { InBounds table.old }
-    ensures { outcome result (bench table.new cells.now reads.now writes.now) ≡ jolt_of (bench table.old cells.now reads.now writes.now) who }
+    ensures { outcome result (bench table.new cells.now reads.now writes.now)
+        ≡ jolt_of (bench table.old cells.now reads.now writes.now) who }
 {
     let me = admit(table, who, Call::Jolt, cells, reads, writes)?;
     table.heads[who.head as usize] = abort(me, Cause::Other);
@@ -63,7 +65,8 @@ pub(crate) fn cancel<W: Word>(
     writes: &[Slot<W>],
 ) -> Result<(), Refusal>
     requires { InBounds table.old }
-    ensures { outcome result (bench table.new cells.now reads.now writes.now) ≡ drop_of (bench table.old cells.now reads.now writes.now) who }
+    ensures { outcome result (bench table.new cells.now reads.now writes.now)
+        ≡ drop_of (bench table.old cells.now reads.now writes.now) who }
 {
     let me = admit(table, who, Call::Drop, cells, reads, writes)?;
     table.heads[who.head as usize] = Head {
@@ -73,7 +76,8 @@ pub(crate) fn cancel<W: Word>(
     Ok(())
 }
 
-// The next attempt of an aborted head begins: in software after a software attempt, and as the policy says after a hardware one.
+// The next attempt of an aborted head begins: in software after a software attempt, and as the policy says after a
+// hardware one.
 #[tactic(auto, using(crate::proofs::Refused::refused))]
 pub(crate) fn again<P: Policy, W: Word>(
     table: &mut Table,
@@ -84,7 +88,9 @@ pub(crate) fn again<P: Policy, W: Word>(
     writes: &[Slot<W>],
 ) -> Result<Mode, Refusal>
     requires { InBounds table.old }
-    ensures { (kit : Kit W) → kit.next ≡ P.Policy.next policy.now → outcome result (bench table.new cells.now reads.now writes.now) ≡ again_of kit (bench table.old cells.now reads.now writes.now) who }
+    ensures { (kit : Kit W) →
+        kit.next ≡ P.Policy.next policy.now → outcome result (bench table.new cells.now reads.now writes.now)
+        ≡ again_of kit (bench table.old cells.now reads.now writes.now) who }
 {
     let me = admit(table, who, Call::Again, cells, reads, writes)?;
     if is_locked(table) {

@@ -3,11 +3,11 @@ ghost use Rattle.std.specs.Prelude.{◌≡◌, ℕ, ◌++◌, ◌∷◌, [], Boo
 ghost use Rattle.rules.specs.declared.types.Head.{Head as HeadRecord};
 ghost use Rattle.rules.specs.declared.types.Slot.{Slot as SlotRecord};
 ghost use Rattle.rules.specs.declared.types.Table.{Table as TableRecord};
-ghost use Rattle.rules.specs.Bench.{bench, map_at, abort_if_hit, lock_out};
+ghost use Rattle.rules.specs.Bench.{hit_by_loads, hit_by_store, bench, map_at, abort_if_hit, lock_out};
 ghost use Rattle.rules.specs.Bounds.{HeadBounds};
-ghost use Rattle.rig.specs.Accesses.{runs_into_load, runs_into_store, cells_of};
+ghost use Rattle.rig.specs.Accesses.{cells_of};
 
-use crate::heads::abort;
+use crate::heads::{abort, is_hardware};
 use logs::Log;
 use parts::{Board, Cause, Word};
 use rules::{Head, Slot, State};
@@ -28,7 +28,7 @@ pub(crate) struct Loads<'a, W> {
 }
 
 impl<W: Word> Access<W> for Loads<'_, W> {
-    ghost hits = { λ a line reads writes. runs_into_load line (cells_of a.log.slots.now a.cell) writes };
+    ghost hits = { λ a line reads writes. hit_by_loads line (cells_of a.log.slots.now a.cell) reads writes };
 
     #[tactic(auto, using(crate::proofs::Hits::log_hits, crate::proofs::Hits::cell_hits, crate::proofs::Hits::none_hits))]
     fn hits<B: Board>(&self, board: &B, _reads: &Log<'_, W>, writes: &Log<'_, W>) -> bool {
@@ -49,7 +49,7 @@ pub(crate) struct Store {
 }
 
 impl<W: Word> Access<W> for Store {
-    ghost hits = { λ a line reads writes. runs_into_store line a.cell reads writes };
+    ghost hits = { λ a line reads writes. hit_by_store line a.cell reads writes };
 
     fn hits<B: Board>(&self, board: &B, reads: &Log<'_, W>, writes: &Log<'_, W>) -> bool {
         let line = board.line(self.cell);
@@ -68,10 +68,11 @@ fn after_access<A: Access<W>, B: Board, W: Word>(
     writes: &[Slot<W>],
 ) -> Head
     requires { HeadBounds head }
-    ensures { (t : TableRecord) (cells : List W) → result ≡ abort_if_hit (bench t cells reads.now writes.now) me (A.Access.hits access.now (B.Board.line board.now)) other head }
+    ensures { (t : TableRecord) (cells : List W) →
+        result
+        ≡ abort_if_hit (bench t cells reads.now writes.now) me (A.Access.hits access.now (B.Board.line board.now)) other head }
 {
-    let is_hardware = matches!(head.state, State::Hardware);
-    if other == me || !is_hardware {
+    if other == me || !is_hardware(head) {
         return head;
     }
     let reads = Log::of_head(reads, other, head.read_count);
@@ -94,7 +95,9 @@ pub(crate) fn abort_hit<A: Access<W>, B: Board, W: Word>(
 )
     requires { All HeadBounds heads.old }
     ensures bounds { All HeadBounds heads.new }
-    ensures heads { (t : TableRecord) (cells : List W) → heads.new ≡ map_at (abort_if_hit (bench t cells reads.now writes.now) me (A.Access.hits access.now (B.Board.line board.now))) 0 heads.old }
+    ensures heads { (t : TableRecord) (cells : List W) →
+        heads.new
+        ≡ map_at (abort_if_hit (bench t cells reads.now writes.now) me (A.Access.hits access.now (B.Board.line board.now))) 0 heads.old }
 {
     for k in 0..8 {
         let at = k as usize;

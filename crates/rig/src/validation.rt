@@ -18,8 +18,10 @@ pub(crate) fn revalidate<'a, W: Word>(
 ) -> Validation<'a, W>
     requires eight { length table.now.heads ≡ 8 }
     requires head { head < 8 }
-    ensures valid { (kit : Kit W) (writes : List (SlotRecord W)) → kit.same ≡ W.Word.same → result.valid ≡ is_valid kit (bench table.now cells.now reads.now writes) head }
-    ensures loaded { (kit : Kit W) (writes : List (SlotRecord W)) → kit.same ≡ W.Word.same → map (λ s. s.cell) result.loaded.slots.now ≡ cells_validated kit (bench table.now cells.now reads.now writes) head }
+    ensures valid { (kit : Kit W) (writes : List (SlotRecord W)) → kit.same ≡ W.Word.same → result.valid
+        ≡ is_valid kit (bench table.now cells.now reads.now writes) head }
+    ensures loaded { (kit : Kit W) (writes : List (SlotRecord W)) → kit.same ≡ W.Word.same → map (λ s. s.cell) result.loaded.slots.now
+        ≡ cells_validated kit (bench table.now cells.now reads.now writes) head }
 {
     let me = table.heads[head as usize];
     let log = Log::of_head(reads, head, me.read_count);

@@ -18,24 +18,19 @@ pub(crate) fn push<W: Word>(
     writes: &[Slot<W>],
 ) -> Result<u8, Refusal>
     requires { InBounds table.old }
-    ensures { outcome result (bench table.new cells.new reads.now writes.now) ≡ push_of (bench table.old cells.old reads.now writes.now) who }
+    ensures { outcome result (bench table.new cells.new reads.now writes.now)
+        ≡ push_of (bench table.old cells.old reads.now writes.now) who }
 {
     let me = admit(table, who, Call::Push, cells, reads, writes)?;
     let log = Log::of_head(writes, who.head, me.write_count);
     log.part(usize::from(me.written), 1).put_into(cells);
     let written = me.written + 1;
     let left = me.write_count - written;
-    let head = Head { written, ..me };
-    table.heads[who.head as usize] = if left == 0 {
-        Head {
-            state: State::Idle,
-            ..head
-        }
-    } else {
-        head
-    };
+    let mut head = Head { written, ..me };
     if left == 0 {
+        head.state = State::Idle;
         table.sequence += 1;
     }
+    table.heads[who.head as usize] = head;
     Ok(left)
 }

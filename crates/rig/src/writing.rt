@@ -4,8 +4,8 @@ ghost use Rattle.rules.specs.Bench.{bench};
 ghost use Rattle.rules.specs.Bounds.{HeadBounds, InBounds};
 ghost use Rattle.rules.specs.Calls.{outcome, write_of};
 ghost use Rattle.rules.specs.Heads.{stores_after};
-ghost use Rattle.rules.specs.Logs.{distinct_count, lines_of, log_of};
-ghost use Rattle.rig.specs.Kits.{AnyPolicy, kit_under};
+ghost use Rattle.rules.specs.Logs.{lines_touched, log_of};
+ghost use Rattle.rig.specs.Kits.{PolicyParts, kit_under};
 ghost use Rattle.rig.specs.Stores.{stored};
 
 use crate::admission::admit;
@@ -39,7 +39,8 @@ fn fits<B: Board, W: Word>(
     reads: &[Slot<W>],
     writes: &[Slot<W>],
 ) -> bool
-    ensures { result ≡ B.Board.fits board.now me.stores (distinct_count (lines_of (B.Board.line board.now) (log_of head me.read_count reads.now ++ log_of head me.write_count writes.now))) }
+    ensures { result
+        ≡ B.Board.fits board.now me.stores (lines_touched (B.Board.line board.now) (log_of head me.read_count reads.now) (log_of head me.write_count writes.now)) }
 {
     let read_log = Log::of_head(reads, head, me.read_count);
     let write_log = Log::of_head(writes, head, me.write_count);
@@ -60,7 +61,9 @@ fn store<B: Board, W: Word>(
     requires head { head < 8 }
     requires own { HeadBounds me }
     requires others { All HeadBounds table.old.heads }
-    ensures { (p : AnyPolicy) (cells : List W) → outcome result (bench table.new cells reads.now writes.now) ≡ stored (kit_under p W.Word B.Board board.now) (bench table.old cells reads.now writes.now) head me cell }
+    ensures { (p : PolicyParts) (cells : List W) →
+        outcome result (bench table.new cells reads.now writes.now)
+        ≡ stored (kit_under p W.Word B.Board board.now) (bench table.old cells reads.now writes.now) head me cell }
 {
     if !fits(board, head, me, reads, writes) {
         table.heads[head as usize] = abort(me, Cause::Capacity);
@@ -90,7 +93,9 @@ pub(crate) fn write<B: Board, W: Word>(
     writes: &mut [Slot<W>],
 ) -> Result<(), Refusal>
     requires { InBounds table.old }
-    ensures { (p : AnyPolicy) → outcome result (bench table.new cells.now reads.now writes.new) ≡ write_of (kit_under p W.Word B.Board board.now) (bench table.old cells.now reads.now writes.old) who cell word }
+    ensures { (p : PolicyParts) →
+        outcome result (bench table.new cells.now reads.now writes.new)
+        ≡ write_of (kit_under p W.Word B.Board board.now) (bench table.old cells.now reads.now writes.old) who cell word }
 {
     let me = admit(table, who, Call::Write(cell, word), cells, reads, writes)?;
     let log = Log::of_head(writes, who.head, me.write_count);

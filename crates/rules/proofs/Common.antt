@@ -74,7 +74,7 @@ module _ {W : Type 0} (kit : Kit W) (law : Lawful kit) (start : List W) (b : Ben
       (λ (f : is_current kit b h ≡ true).
       let both = and_parts (eqb me.head.snapshot.sequence m.sequence) (eqb me.head.snapshot.commits m.commits) f in
       ((inv.heads h me at).software software).valid (eqb-true me.head.snapshot.sequence m.sequence both.0) (eqb-true me.head.snapshot.commits m.commits both.1))
-      (λ (c : list_all (holds kit.same b.cells) me.reads ≡ true). check-agrees kit law b h me.reads c)
+      (λ (c : list_all (holds kit.same b.cells) me.reads ≡ true). check-agrees kit law b.cells me.reads c)
       (or_cases (is_current kit b h) (list_all (holds kit.same b.cells) me.reads) e)
 
   -- a software head aborts only after a close with writes of another head
@@ -97,7 +97,7 @@ module _ {W : Type 0} (kit : Kit W) (law : Lawful kit) (start : List W) (b : Ben
       sym (after-quiet h (drop p l.closes) (cells_after (take p l.closes) start) others none) ∙ sym (after-append (take p l.closes) (drop p l.closes) start)
       ∙ ap (λ cs. cells_after cs start) (take-append-drop p l.closes) ∙ sym (inv.calm even).settled in
       let valid : Agrees m.cells me.reads = subst (λ xs. Agrees xs me.reads) now s.valid-then in
-      wrong (sym (or_parts (is_current kit b h) (list_all (holds kit.same b.cells) me.reads) unsound).1 ∙ agrees-check kit law b h me.reads valid))
+      wrong (sym (or_parts (is_current kit b h) (list_all (holds kit.same b.cells) me.reads) unsound).1 ∙ agrees-check kit law b.cells me.reads valid))
       (cases_lt 0 (length (filter (is_other h) (drop p l.closes)))) in
       let more = count-charge l.closes h since p s.since s.within one in
       omega (arith, s.budget)
@@ -113,7 +113,7 @@ module _ {W : Type 0} (kit : Kit W) (law : Lawful kit) (start : List W) (b : Ben
       let budget = charged software even unsound in
       let aborts : cond (is_hardware me.head.state) (me.head.hardware_aborts + 1) me.head.hardware_aborts ≡ me.head.hardware_aborts = cond-false (is_hardware me.head.state) (me.head.hardware_aborts + 1) me.head.hardware_aborts (software-not-hardware me.head.state software) in
       quiet_at kit start m l inv h me at (abort_seat Changed me) (loaded kit (cells_validated kit b h)) l.pages (l.pages h) l.past l.ended
-      (struck-hit (hit_by_loads kit (cells_validated kit b h))) (λ k ne. refl) refl
+      (struck-hit (hit_by_loads kit.line (cells_validated kit b h))) (λ k ne. refl) refl
       (record {
         attempts = o.attempts;
         since = o.since;

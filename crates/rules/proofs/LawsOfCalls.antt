@@ -333,17 +333,17 @@ others-slots-stay {W} kit b who call j bounds ne =
 pub stray-cells : {W : Type 0} (kit : Kit W) → StrayCells kit
 stray-cells {W} kit = record { differs = differs; not_loaded = inside; not_written = λ s cells far. set_past cells s.cell s.word far }
   where
-    differs : (b : Bench W) (k : ℕ) (s : Slot W) → length b.cells ≤ s.cell → holds kit.same b.cells s ≡ false
-    differs b k s far = ap (holds_same kit.same s.word) (slice_get_past b.cells s.cell far)
+    differs : (cells : List W) (s : Slot W) → length cells ≤ s.cell → holds kit.same cells s ≡ false
+    differs cells s far = ap (holds_same kit.same s.word) (slice_get_past cells s.cell far)
 
-    inside : (b : Bench W) (k : ℕ) (log : List (Slot W)) → All (λ c. c < length b.cells) (cells_loaded kit.same b.cells log)
-    inside b k [] = All-nil (λ c. c < length b.cells)
-    inside b k (s ∷ log) =
-        let P : ℕ → Type 0 = λ c. c < length b.cells in
-        let within : holds kit.same b.cells s ≡ true → s.cell < length b.cells =
-        λ e. ⊎_elim (λ (lt : s.cell < length b.cells). lt) (λ far. wrong (sym (differs b k s far) ∙ e)) (cases_lt s.cell (length b.cells)) in
-        cond_both (holds kit.same b.cells s) _ _ (All P) (λ e. All-cons P s.cell (cells_loaded kit.same b.cells log) (within e) (inside b k log))
-        (λ _. cond_both (nat_lt s.cell (length b.cells)) (s.cell ∷ []) [] (All P) (λ e. All-cons P s.cell [] (ltb-true s.cell (length b.cells) e) (All-nil P)) (λ _. All-nil P))
+    inside : (cells : List W) (log : List (Slot W)) → All (λ c. c < length cells) (cells_loaded kit.same cells log)
+    inside cells [] = All-nil (λ c. c < length cells)
+    inside cells (s ∷ log) =
+        let P : ℕ → Type 0 = λ c. c < length cells in
+        let within : holds kit.same cells s ≡ true → s.cell < length cells =
+        λ e. ⊎_elim (λ (lt : s.cell < length cells). lt) (λ far. wrong (sym (differs cells s far) ∙ e)) (cases_lt s.cell (length cells)) in
+        cond_both (holds kit.same cells s) _ _ (All P) (λ e. All-cons P s.cell (cells_loaded kit.same cells log) (within e) (inside cells log))
+        (λ _. cond_both (nat_lt s.cell (length cells)) (s.cell ∷ []) [] (All P) (λ e. All-cons P s.cell [] (ltb-true s.cell (length cells) e) (All-nil P)) (λ _. All-nil P))
 
 pub call-laws : {W : Type 0} (kit : Kit W) → CallLaws kit
 call-laws kit = record {

@@ -9,7 +9,6 @@ use Rattle.rules.specs.declared.types.Slot.{Slot}
 use Rattle.rules.specs.Logs.{slot, is_empty, names, word_for, put, note, lacks_room_for, put_in, log_of, holds, holds_same}
 use Rattle.rules.specs.Kit.{Kit}
 use Rattle.rules.proofs.Lawful.{Lawful}
-use Rattle.rules.specs.Bench.{Bench}
 use Rattle.rules.specs.RunLaws.{Agrees}
 use Rattle.rules.proofs.Seats.{meets}
 use Rattle.rules.proofs.Basics.{eqb-flip, by-test, by-option, wrong, nth-set-other, any_none, all-append-left, all-append-right, all_both}
@@ -178,19 +177,19 @@ module _ {W : Type 0} (kit : Kit W) where
   agrees-put-in (s ∷ ws) log xs a h = agrees-put-in ws log (set xs s.cell s.word) (All-tail (λ s. meets kit s.cell log ≡ false) s ws a) (agrees-set s.cell s.word log xs (All-head (λ s. meets kit s.cell log ≡ false) s ws a) h)
 
   -- validation decides agreement
-  module _ (law : Lawful kit) (b : Bench W) (k : ℕ) where
-    pub check-agrees : (log : List (Slot W)) → list_all (holds kit.same b.cells) log ≡ true → Agrees b.cells log
-    check-agrees [] e = All-nil (AgreesAt b.cells)
+  module _ (law : Lawful kit) (cells : List W) where
+    pub check-agrees : (log : List (Slot W)) → list_all (holds kit.same cells) log ≡ true → Agrees cells log
+    check-agrees [] e = All-nil (AgreesAt cells)
     check-agrees (s ∷ log) e =
-        let parts = and_parts (holds kit.same b.cells s) (list_all (holds kit.same b.cells) log) e in
-        let at : slice_get b.cells s.cell ≡ Some s.word =
-        by-option (slice_get b.cells s.cell) (λ o. holds_same kit.same s.word o ≡ true → o ≡ Some s.word)
+        let parts = and_parts (holds kit.same cells s) (list_all (holds kit.same cells) log) e in
+        let at : slice_get cells s.cell ≡ Some s.word =
+        by-option (slice_get cells s.cell) (λ o. holds_same kit.same s.word o ≡ true → o ≡ Some s.word)
         (λ _ h. wrong h) (λ w _ h. ap Some ((law.exact w s.word).0 h)) parts.0 in
-        All-cons (AgreesAt b.cells) s log at (check-agrees log parts.1)
+        All-cons (AgreesAt cells) s log at (check-agrees log parts.1)
 
-    pub agrees-check : (log : List (Slot W)) → Agrees b.cells log → list_all (holds kit.same b.cells) log ≡ true
+    pub agrees-check : (log : List (Slot W)) → Agrees cells log → list_all (holds kit.same cells) log ≡ true
     agrees-check [] h = refl
     agrees-check (s ∷ log) h =
-        and_from (holds kit.same b.cells s) (list_all (holds kit.same b.cells) log)
-        (ap (λ (o : Option W). holds_same kit.same s.word o) (All-head (AgreesAt b.cells) s log h) ∙ (law.exact s.word s.word).1 refl)
-        (agrees-check log (All-tail (AgreesAt b.cells) s log h))
+        and_from (holds kit.same cells s) (list_all (holds kit.same cells) log)
+        (ap (λ (o : Option W). holds_same kit.same s.word o) (All-head (AgreesAt cells) s log h) ∙ (law.exact s.word s.word).1 refl)
+        (agrees-check log (All-tail (AgreesAt cells) s log h))

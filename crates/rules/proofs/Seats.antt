@@ -48,10 +48,10 @@ module _ {W : Type 0} (kit : Kit W) where
   meets c log = touches kit.line (kit.line c) log
 
   abbrev pub loaded : List ℕ → Seat W → Seat W
-  loaded cs it = struck_by (hit_by_loads kit cs) it
+  loaded cs it = struck_by (hit_by_loads kit.line cs) it
 
   abbrev pub claimed : ℕ → Seat W → Seat W
-  claimed c it = struck_by (hit_by_store kit c) it
+  claimed c it = struck_by (hit_by_store kit.line c) it
 
 module _ {W : Type 0} where
   -- the head at the place k with its logs

@@ -187,15 +187,15 @@ module _ {W : Type 0} (kit : Kit W) (law : Lawful kit) (start : List W) (b : Ben
       let o = inv.heads h me at in
       let x = become WritingBack (wrote 0 (resnap (present_snapshot b.table) (head_at b h))) in
       let me' = seated me x in
-      let strike : ℕ → Head → Head = abort_if_hit b h (hit_by_loads kit (cells_validated kit b h)) in
+      let strike : ℕ → Head → Head = abort_if_hit b h (hit_by_loads kit.line (cells_validated kit b h)) in
       let f : Seat W → Seat W = λ o. locked (loaded kit (cells_validated kit b h) o) in
-      let struck : (o : Seat W) → Struck o (f o) = λ o. struck-locked o (loaded kit (cells_validated kit b h) o) (struck-hit (hit_by_loads kit (cells_validated kit b h)) o) in
+      let struck : (o : Seat W) → Struck o (f o) = λ o. struck-locked o (loaded kit (cells_validated kit b h) o) (struck-hit (hit_by_loads kit.line (cells_validated kit b h)) o) in
       cond_both (is_valid kit b h) _ _ Kept
       (λ e.
       subst (λ hs. Inv kit start (view (bench (with_numbers b.table (set hs h x) (b.table.sequence + 1) b.table.commits b.table.opened) b.cells b.reads b.writes)) (l' true))
       (sym (map-map_at lock_out strike 0 b.table.heads))
       (keep-swept kit start _ b bounds lists h lt (b.table.sequence + 1) b.table.commits b.table.opened x b.cells b.reads b.writes
-      (λ j y. lock_out (strike j y)) f (locks-seen b bounds lists h lt b.reads b.writes (untouched b bounds lists h lt) (hit_by_loads kit (cells_validated kit b h)))
+      (λ j y. lock_out (strike j y)) f (locks-seen b bounds lists h lt b.reads b.writes (untouched b bounds lists h lt) (hit_by_loads kit.line (cells_validated kit b h)))
       (moving kit start m l inv h me me' f (m.sequence + 1) m.commits m.cells (commit ∷ []) closes'
       (pages_with l.pages h (page' true)) (page' true) l.past (end me.head.attempts ∷ l.ended)
       at struck (λ k ne. turned-other l.pages h _ k ne) (turned-here l.pages h _) refl other-head (omega arith) (omega arith)
@@ -219,7 +219,7 @@ module _ {W : Type 0} (kit : Kit W) (law : Lawful kit) (start : List W) (b : Ben
       inv.past (explained-all true even (sound-valid kit law start b l inv h at software e)) (ended-ok true) bound-ok)))
       (λ e.
       keep-swept kit start l b bounds lists h lt b.table.sequence b.table.commits b.table.opened (abort Changed (head_at b h)) b.cells b.reads b.writes
-      strike (loaded kit (cells_validated kit b h)) (conflict-seen b bounds lists h lt b.reads b.writes (untouched b bounds lists h lt) (hit_by_loads kit (cells_validated kit b h)))
+      strike (loaded kit (cells_validated kit b h)) (conflict-seen b bounds lists h lt b.reads b.writes (untouched b bounds lists h lt) (hit_by_loads kit.line (cells_validated kit b h)))
       (changed kit law start b l inv h at software even e))
 
   pub keep-close : ((is_software me.head.state && not (is_empty me.writes)) && is_odd m.sequence) ≡ false → Kept (admitted_close kit b h)

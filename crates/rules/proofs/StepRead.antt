@@ -125,8 +125,8 @@ module _ {W : Type 0} (kit : Kit W) (law : Lawful kit) (start : List W) (b : Ben
         ap (λ (r : List (Slot W)). record { head = read_more (length new) x; reads = r; writes = log_of h x.write_count b.writes }) (own-log b bounds lists h lt b.reads new (read-room b bounds lists h lt) few)
         ∙ ap (λ n. record { head = read_more (length new) x; reads = new; writes = log_of h n b.writes }) ws in
         keep-swept kit start l' b bounds lists h lt b.table.sequence b.table.commits b.table.opened (read_more (length new) x) b.cells after b.writes
-        (abort_if_hit b h (hit_by_loads kit cs)) (loaded kit cs)
-        (conflict-seen b bounds lists h lt after b.writes (reads-laid b bounds lists h lt new few) (hit_by_loads kit cs))
+        (abort_if_hit b h (hit_by_loads kit.line cs)) (loaded kit cs)
+        (conflict-seen b bounds lists h lt after b.writes (reads-laid b bounds lists h lt new few) (hit_by_loads kit.line cs))
         (subst (λ (s : Seat W). Inv kit start (record { heads = set (map (loaded kit cs) m.heads) h s; sequence = m.sequence; commits = m.commits; cells = m.cells }) l') (sym mine) i)
 
   keep-software : (w : W) → lacks_room_for c me.reads ≡ false → slice_get m.cells c ≡ Some w → names c me.writes ≡ false → is_software me.head.state ≡ true → is_odd m.sequence ≡ false
@@ -147,7 +147,7 @@ module _ {W : Type 0} (kit : Kit W) (law : Lawful kit) (start : List W) (b : Ben
       from-cells w (view (notes_word kit b h (after_loads kit b h cs) x c w).left) none
       (note-kept w room cs x _ refl
       (quiet_at kit start m l inv h me at me' (loaded kit cs) _ (more-read c w (l.pages h)) l.past l.ended
-      (struck-hit (hit_by_loads kit cs)) (λ k ne. turned-other l.pages h _ k ne) (turned-here l.pages h _)
+      (struck-hit (hit_by_loads kit.line cs)) (λ k ne. turned-other l.pages h _ k ne) (turned-here l.pages h _)
       (record {
         attempts = o.attempts;
         since = o.since;
@@ -175,8 +175,8 @@ module _ {W : Type 0} (kit : Kit W) (law : Lawful kit) (start : List W) (b : Ben
       inv.past (explained-now w here even valid) inv.ended (inv.bound h))))
       (λ e.
       keep-swept kit start l b bounds lists h lt b.table.sequence b.table.commits b.table.opened (abort Changed (head_at b h)) b.cells b.reads b.writes
-      (abort_if_hit b h (hit_by_loads kit (cells_validated kit b h))) (loaded kit (cells_validated kit b h))
-      (conflict-seen b bounds lists h lt b.reads b.writes (untouched b bounds lists h lt) (hit_by_loads kit (cells_validated kit b h)))
+      (abort_if_hit b h (hit_by_loads kit.line (cells_validated kit b h))) (loaded kit (cells_validated kit b h))
+      (conflict-seen b bounds lists h lt b.reads b.writes (untouched b bounds lists h lt) (hit_by_loads kit.line (cells_validated kit b h)))
       (changed kit law start b l inv h at software even e))
 
   keep-hardware : (w : W) → lacks_room_for c me.reads ≡ false → slice_get m.cells c ≡ Some w → names c me.writes ≡ false → is_hardware me.head.state ≡ true → Kept (hardware_read kit b h c w)
@@ -191,7 +191,7 @@ module _ {W : Type 0} (kit : Kit W) (law : Lawful kit) (start : List W) (b : Ben
       from-cells w (view (notes_word kit b h (after_loads kit b h (c ∷ [])) (head_at b h) c w).left) none
       (note-kept w room (c ∷ []) (head_at b h) _ refl
       (quiet_at kit start m l inv h me at me' (loaded kit (c ∷ [])) _ (more-read c w (l.pages h)) l.past l.ended
-      (struck-hit (hit_by_loads kit (c ∷ []))) (λ k ne. turned-other l.pages h _ k ne) (turned-here l.pages h _)
+      (struck-hit (hit_by_loads kit.line (c ∷ []))) (λ k ne. turned-other l.pages h _ k ne) (turned-here l.pages h _)
       (record {
         attempts = o.attempts;
         since = o.since;

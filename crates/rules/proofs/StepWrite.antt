@@ -143,10 +143,10 @@ module _ {W : Type 0} (kit : Kit W) (law : Lawful kit) (start : List W) (b : Ben
       cond_both (fits_write kit b h new x) _ _ Kept
       (λ e.
       keep-swept kit start _ b bounds lists h lt b.table.sequence b.table.commits b.table.opened x b.cells b.reads (slots_with h new b.writes)
-      (abort_if_hit b h (hit_by_store kit c)) (claimed kit c) (conflict-seen b bounds lists h lt b.reads (slots_with h new b.writes) (writes-laid b bounds lists h lt new few) (hit_by_store kit c))
+      (abort_if_hit b h (hit_by_store kit.line c)) (claimed kit c) (conflict-seen b bounds lists h lt b.reads (slots_with h new b.writes) (writes-laid b bounds lists h lt new few) (hit_by_store kit.line c))
       (subst (λ (s : Seat W). Inv kit start (record { heads = set (map (claimed kit c) m.heads) h s; sequence = m.sequence; commits = m.commits; cells = m.cells }) (history_after l h (Write c w) (Ok granted.Done))) (sym mine)
       (quiet_at kit start m l inv h me at me' (claimed kit c) _ (more-written c w (l.pages h)) l.past l.ended
-      (struck-hit (hit_by_store kit c)) (λ k ne. turned-other l.pages h _ k ne) (turned-here l.pages h _)
+      (struck-hit (hit_by_store kit.line c)) (λ k ne. turned-other l.pages h _ k ne) (turned-here l.pages h _)
       (record {
         attempts = o.attempts;
         since = o.since;

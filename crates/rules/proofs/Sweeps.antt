@@ -55,10 +55,10 @@ module _ {W : Type 0} (kit : Kit W) (b : Bench W) (k : ℕ) where
       0 b.table.heads
 
   pub swept-loads : (cs : List ℕ) → Swept b.table.heads (after_loads kit b k cs)
-  swept-loads cs = swept-conflict (hit_by_loads kit cs)
+  swept-loads cs = swept-conflict (hit_by_loads kit.line cs)
 
   pub swept-store : (c : ℕ) → Swept b.table.heads (after_store kit b k c)
-  swept-store c = swept-conflict (hit_by_store kit c)
+  swept-store c = swept-conflict (hit_by_store kit.line c)
 
   -- and after the lock is taken: one that has aborted already is not locked out
   pub swept-lock : (cs : List ℕ) → Swept b.table.heads (map lock_out (after_loads kit b k cs))

@@ -1,5 +1,6 @@
 -- One answer for all calls: its number and its value, as a run sheet shows them.
 use Rattle.std.specs.Prelude.{ℕ, Some, None, Ok, Err, Option, Result}
+use Rattle.std.specs.Option.{option_map}
 use Rattle.parts.specs.Causes.{cause_number, mode_number}
 use Rattle.parts.specs.declared.calls.Call.{Call}
 use Rattle.parts.specs.declared.calls.Call.TheVariants.{Open, Read, Write, Close, Push, Jolt, Again, Drop}
@@ -80,3 +81,8 @@ granted_value shown number (granted.SlotsLeft n) = Some (number n)
 abbrev pub answer_number : {W : Type 0} → Answer W → ℕ
 answer_number (Ok g) = granted_number g
 answer_number (Err e) = refusal_number e
+
+-- the value of any answer, shown likewise
+abbrev pub answer_value : {W V : Type 0} → (W → V) → (ℕ → V) → Answer W → Option V
+answer_value shown number (Ok g) = granted_value shown number g
+answer_value shown number (Err e) = option_map number (refusal_value e)

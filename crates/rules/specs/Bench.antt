@@ -48,14 +48,14 @@ module _ {W : Type 0} (b : Bench W) (k : ℕ) where
   abbrev pub table_with : List Head → Head → Table
   table_with heads h = record b.table { heads = slice_set heads k h }
 
-module _ {W : Type 0} (kit : Kit W) where
+module _ {W : Type 0} (line : ℕ → ℕ) where
   -- which logs of another head a load of one of these cells runs into: a write log with a cell of its line
   abbrev pub hit_by_loads : List ℕ → List (Slot W) → List (Slot W) → Bool
-  hit_by_loads cs reads writes = list_any (λ c. touches kit.line (kit.line c) writes) cs
+  hit_by_loads cs reads writes = list_any (λ c. touches line (line c) writes) cs
 
   -- and a hardware store to a cell: either log
   abbrev pub hit_by_store : ℕ → List (Slot W) → List (Slot W) → Bool
-  hit_by_store c reads writes = touches kit.line (kit.line c) reads || touches kit.line (kit.line c) writes
+  hit_by_store c reads writes = touches line (line c) reads || touches line (line c) writes
 
 module _ {W : Type 0} (b : Bench W) (k : ℕ) where
   -- another head than k, in hardware, whose logs are hit aborts by conflict
@@ -68,10 +68,10 @@ module _ {W : Type 0} (b : Bench W) (k : ℕ) where
 module _ {W : Type 0} (kit : Kit W) (b : Bench W) (k : ℕ) where
   -- the heads after the head k has loaded these cells, and after a hardware store of it to a cell
   abbrev pub after_loads : List ℕ → List Head
-  after_loads cs = map_at (abort_if_hit b k (hit_by_loads kit cs)) 0 b.table.heads
+  after_loads cs = map_at (abort_if_hit b k (hit_by_loads kit.line cs)) 0 b.table.heads
 
   abbrev pub after_store : ℕ → List Head
-  after_store c = map_at (abort_if_hit b k (hit_by_store kit c)) 0 b.table.heads
+  after_store c = map_at (abort_if_hit b k (hit_by_store kit.line c)) 0 b.table.heads
 
   -- whether the snapshot of the head k is the present one
   abbrev pub is_current : Bool

@@ -31,6 +31,7 @@ pub record InBounds (t : Table) : Type 0 where
   pub eight : length t.heads ≡ 8
   pub few_heads : t.head_count ≤ 8
   pub few_cells : t.cell_count ≤ 1024
+  -- so empty lists are too short for every rig
   pub some_cells : 1 ≤ t.cell_count
   pub opened : t.opened ≤ 60_000
   pub numbered : All (λ (h : Head). h.transaction ≤ t.opened) t.heads

@@ -102,8 +102,8 @@ module _ {W : Type 0} (kit : Kit W) where
   -- a slot may name a cell that the rig does not have. Validation takes it as different and does not load it; putting a
   -- log into the cells, as a close and a push do, writes nothing for it
   pub record StrayCells : Type 0 where
-    pub differs : (b : Bench W) (k : ℕ) (s : Slot W) → length b.cells ≤ s.cell → holds kit.same b.cells s ≡ false
-    pub not_loaded : (b : Bench W) (k : ℕ) (log : List (Slot W)) → All (λ c. c < length b.cells) (cells_loaded kit.same b.cells log)
+    pub differs : (cells : List W) (s : Slot W) → length cells ≤ s.cell → holds kit.same cells s ≡ false
+    pub not_loaded : (cells : List W) (log : List (Slot W)) → All (λ c. c < length cells) (cells_loaded kit.same cells log)
     pub not_written : (s : Slot W) (cells : List W) → length cells ≤ s.cell → put_in (s ∷ []) cells ≡ cells
 
   pub record CallLaws : Type 0 where

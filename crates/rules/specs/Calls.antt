@@ -16,7 +16,7 @@ use Rattle.rules.specs.declared.types.Slot.{Slot}
 use Rattle.rules.specs.declared.types.State.TheVariants.{Idle, WritingBack}
 use Rattle.rules.specs.declared.types.Table.{Table}
 use Rattle.rules.specs.Kit.{Kit}
-use Rattle.rules.specs.Logs.{is_empty, word_for, put, note, lines_of, distinct_count, put_in, slots_with}
+use Rattle.rules.specs.Logs.{is_empty, word_for, put, note, lines_touched, lines_touched_with, put_in, slots_with}
 use Rattle.rules.specs.Heads.{new_head, is_hardware, empty_logs, abort, with_transaction, begin, next_mode, stores_after}
 use Rattle.rules.specs.Bench.{Bench, head_at, read_log, write_log, table_with, present_snapshot, after_loads, after_store, lock_out, is_valid, cells_validated}
 use Rattle.rules.specs.Refusals.{refusal}
@@ -26,7 +26,7 @@ pub record Outcome (A W : Type 0) : Type 0 where
   pub answer : Result A Refusal
   pub left : Bench W
 
--- by its answer and by the bench that is left
+-- an outcome of these two parts
 abbrev pub outcome : {A W : Type 0} → Result A Refusal → Bench W → Outcome A W
 outcome answer b = record { answer = answer; left = b }
 
@@ -136,7 +136,7 @@ module _ {W : Type 0} (kit : Kit W) (b : Bench W) (k : ℕ) where
   -- in hardware the attempt must fit with that cell's line touched
   abbrev pub fits_read : ℕ → Bool
   fits_read c =
-      kit.fits me.stores (distinct_count (kit.line c ∷ lines_of kit.line (read_log b k ++ write_log b k)))
+      kit.fits me.stores (lines_touched_with kit.line c (read_log b k) (write_log b k))
 
   abbrev pub hardware_read : ℕ → W → Outcome W W
   hardware_read c w =
@@ -163,7 +163,7 @@ module _ {W : Type 0} (kit : Kit W) (b : Bench W) (k : ℕ) where
       record { answer = answer; left = record b { table = table_with b k heads h; writes = slots_with k log b.writes } }
 
   abbrev pub fits_write : List (Slot W) → Head → Bool
-  fits_write log h = kit.fits h.stores (distinct_count (lines_of kit.line (read_log b k ++ log)))
+  fits_write log h = kit.fits h.stores (lines_touched kit.line (read_log b k) log)
 
   abbrev pub hardware_write : ℕ → List (Slot W) → Head → Outcome (Unit {0}) W
   hardware_write c log h =

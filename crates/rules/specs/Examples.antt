@@ -1,6 +1,6 @@
 -- Worked examples, computed by the rule book: amounts, on either board under a margin, with the plain policy. The first
 -- two stand in docs/RULES.md.
-use Rattle.std.specs.Prelude.{◌≡◌, ℕ, ◌*◌, List, [], ◌∷◌, ◌++◌, map, replicate, ℤ, pos, Some, None, Ok, Err, Option}
+use Rattle.std.specs.Prelude.{◌≡◌, ℕ, ◌*◌, List, [], ◌∷◌, ◌++◌, map, replicate, ℤ, pos, Some, None, Option}
 use Rattle.parts.specs.Words.{same_amount}
 use Rattle.parts.specs.Boards.{stores_line, stores_fit, lines_line, lines_fit, with_margin}
 use Rattle.parts.specs.Policies.{plain_mode}
@@ -13,7 +13,7 @@ use Rattle.rules.specs.Logs.{slot}
 use Rattle.rules.specs.Bench.{Bench}
 use Rattle.rules.specs.Refusals.{by_number, by_handle}
 use Rattle.rules.specs.Calls.{new_table}
-use Rattle.rules.specs.Answers.{Answer, answer_number, granted_value, refusal_value}
+use Rattle.rules.specs.Answers.{Answer, answer_number, answer_value}
 use Rattle.rules.specs.Runs.{answers_of, left_by}
 
 -- the two boards, each under a margin
@@ -36,8 +36,7 @@ as_amount (Some n) = Some (pos n)
 
 -- the value of an answer
 abbrev pub value_shown : Answer ℤ → Option ℤ
-value_shown (Ok g) = granted_value (λ w. w) pos g
-value_shown (Err e) = as_amount (refusal_value e)
+value_shown = answer_value (λ w. w) pos
 
 -- a call, and the number and the value that it returns
 pub record Row : Type 0 where

@@ -45,6 +45,14 @@ abbrev pub distinct_count : List ℕ → ℕ
 distinct_count [] = 0
 distinct_count (x ∷ xs) = if list_any (x ==◌) xs then distinct_count xs else suc (distinct_count xs)
 
+-- lines touched: how many different lines the cells of both logs are on, and with one cell more
+module _ {W : Type 0} (line : ℕ → ℕ) where
+  abbrev pub lines_touched : List (Slot W) → List (Slot W) → ℕ
+  lines_touched reads writes = distinct_count (lines_of line (reads ++ writes))
+
+  abbrev pub lines_touched_with : ℕ → List (Slot W) → List (Slot W) → ℕ
+  lines_touched_with c reads writes = distinct_count (line c ∷ lines_of line (reads ++ writes))
+
 -- the cells with the log's words put in, in order; a cell that is not there gets none
 abbrev pub put_in : {W : Type 0} → List (Slot W) → List W → List W
 put_in [] cells = cells

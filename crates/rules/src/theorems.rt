@@ -1,6 +1,6 @@
 // What is proved of the rule book, for every kind of word, every board and every policy: each theorem is the contract
-// of a function that does nothing. Board and policy stay two parameters: the rig that holds both, and makes the calls, is
-// of a crate above.
+// of a function that does nothing. Board and policy stay two parameters: the rig that holds both, and makes the calls, stands
+// in a crate above.
 ghost use Rattle.rules.specs.Bounds.{BoundsAtSetUp, BoundsKept};
 ghost use Rattle.rules.specs.Examples.{RepricingSheet, SoftwareSheet, ValidationSheet, LinesSheet, StoresSheet, LockSheet, RefusalsSheet};
 ghost use Rattle.rules.specs.CallLaws.{CallLaws};

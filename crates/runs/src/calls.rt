@@ -20,7 +20,9 @@ fn carry_out<B: Board, P: Policy, W: Word>(
     reads: &mut [Slot<W>],
     writes: &mut [Slot<W>],
 ) -> Answer<W>
-    ensures outcome { ◌≡◌ {A = Answers W × Bench W} (result, bench rig.new.table cells.new reads.new writes.new) (call_of (kit_of W.Word B.Board P.Policy rig.old.board rig.old.policy) (bench rig.old.table cells.old reads.old writes.old) who call) }
+    ensures outcome { let kit = kit_of W.Word B.Board P.Policy rig.old.board rig.old.policy in
+        let before = bench rig.old.table cells.old reads.old writes.old in
+        ◌≡◌ {A = Answers W × Bench W} (result, bench rig.new.table cells.new reads.new writes.new) (call_of kit before who call) }
     ensures kept { (rig.new.board ≡ rig.old.board) × (rig.new.policy ≡ rig.old.policy) }
 {
     Ok(match call {
@@ -67,7 +69,9 @@ pub fn make<B: Board, P: Policy, W: Word>(
     reads: &mut [Slot<W>],
     writes: &mut [Slot<W>],
 ) -> Answer<W>
-    ensures outcome { ◌≡◌ {A = Answers W × Bench W} (result, bench rig.new.table cells.new reads.new writes.new) (step (kit_of W.Word B.Board P.Policy rig.old.board rig.old.policy) (bench rig.old.table cells.old reads.old writes.old) call) }
+    ensures outcome { let kit = kit_of W.Word B.Board P.Policy rig.old.board rig.old.policy in
+        let before = bench rig.old.table cells.old reads.old writes.old in
+        ◌≡◌ {A = Answers W × Bench W} (result, bench rig.new.table cells.new reads.new writes.new) (step kit before call) }
     ensures kept { (rig.new.board ≡ rig.old.board) × (rig.new.policy ≡ rig.old.policy) }
 {
     match call.lent {

@@ -23,8 +23,12 @@ fn make_all<B: Board, P: Policy, W: Word>(
     answers: &mut Vec<Answer<W>>,
 )
     requires { vec_len answers.old + length calls.now ≤ vec_capacity answers.old }
-    ensures answers { vec_items answers.new ≡ vec_items answers.old ++ answers_of (kit_of W.Word B.Board P.Policy rig.old.board rig.old.policy) (bench rig.old.table cells.old reads.old writes.old) calls.now }
-    ensures left { bench rig.new.table cells.new reads.new writes.new ≡ left_by (kit_of W.Word B.Board P.Policy rig.old.board rig.old.policy) (bench rig.old.table cells.old reads.old writes.old) calls.now }
+    ensures answers { let kit = kit_of W.Word B.Board P.Policy rig.old.board rig.old.policy in
+        let before = bench rig.old.table cells.old reads.old writes.old in
+        vec_items answers.new ≡ vec_items answers.old ++ answers_of kit before calls.now }
+    ensures left { let kit = kit_of W.Word B.Board P.Policy rig.old.board rig.old.policy in
+        let before = bench rig.old.table cells.old reads.old writes.old in
+        bench rig.new.table cells.new reads.new writes.new ≡ left_by kit before calls.now }
     ensures kept { (rig.new.board ≡ rig.old.board) × (rig.new.policy ≡ rig.old.policy) }
 {
     for call in calls {
@@ -42,7 +46,9 @@ pub fn run<B: Board + Drop, P: Policy + Drop, W: Word>(
     reads: &mut [Slot<W>],
     writes: &mut [Slot<W>],
 ) -> Result<Run<B, P, W>, RunError>
-    ensures ran { IfOk result (λ run. Ran (kit_of W.Word B.Board P.Policy from.board from.policy) (bench (new_table from.heads from.cells) cells.old reads.old writes.old) calls.now (vec_items run.answers) (bench run.rig.table cells.new reads.new writes.new)) }
+    ensures ran { let kit = kit_of W.Word B.Board P.Policy from.board from.policy in
+        let before = bench (new_table from.heads from.cells) cells.old reads.old writes.old in
+        IfOk result (λ run. Ran kit before calls.now (vec_items run.answers) (bench run.rig.table cells.new reads.new writes.new)) }
     ensures parts { IfOk result (λ run. (run.rig.board ≡ from.board) × (run.rig.policy ≡ from.policy)) }
     ensures set_up { SetUpAs from.heads from.cells result }
     ensures untouched { IfErr result (λ _. (cells.new ≡ cells.old) × (reads.new ≡ reads.old) × (writes.new ≡ writes.old)) }

@@ -3,7 +3,8 @@ use Rattle.rules.specs.Bench.{bench}
 use Rattle.rules.specs.Runs.{answers_of}
 use Rattle.rules.specs.Kit.{kit_of}
 use Rattle.rules.proofs.Lawful.{Lawful}
-use Rattle.runs.proofs.Whole.{set-up-gives, ran-from}
+use Rattle.rules.proofs.WholeRuns.{set-up-new}
+use Rattle.runs.proofs.Whole.{ran-from}
 use Rattle.runs.proofs.runs.run.Goals as goal
 
 pub returns-clause-ran : goal.returns-clause-ran
@@ -22,4 +23,4 @@ returns-clause-ran g c =
     (c.make_all.ensures.answers ∙ ap (λ xs. xs ++ answers_of (kit rig.board rig.policy) (bench rig.table c.args.cells.now c.args.reads.now c.args.writes.now) c.args.calls.now) c.in_ok-answers.ensures.items) c.make_all.ensures.left
 
 pub returns-clause-set_up : goal.returns-clause-set_up
-returns-clause-set_up g c = c.in_ok-rig.ensures.table ∙ ap Ok (set-up-gives c.args.from.heads c.args.from.cells c.in_ok-rig.rig.table c.in_ok-rig.ensures.table)
+returns-clause-set_up g c = c.in_ok-rig.ensures.table ∙ ap Ok (set-up-new c.args.from.heads c.args.from.cells c.in_ok-rig.rig.table c.in_ok-rig.ensures.table).0
