@@ -1,0 +1,4 @@
+pub mod Rows
+pub mod Starts
+pub mod Kits
+pub mod Sheets

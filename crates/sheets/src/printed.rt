@@ -1,0 +1,33 @@
+// What is printed of a text that is run.
+ghost use Rattle.std.specs.Prelude.{◌≡◌, IfOk, IfErr, Err, string_bytes};
+ghost use Rattle.scenario.specs.declared.types.ReadError.TheVariants as error;
+ghost use Rattle.sheets.specs.Sheets.{end_at, SheetOf, SheetOnce};
+
+use crate::rigs::sheet_of;
+use faults::RigFault;
+use scenario::{ReadError, Reading, read};
+use std::alloc::{AllocError, Global};
+
+// The fault at which a reading ended, if it ended at one; want of memory is no fault of the text.
+fn fault_at(end: Result<(), ReadError>) -> Result<Option<RigFault>, AllocError>
+    ensures fault { IfOk result (λ fault. end ≡ end_at fault) }
+    ensures no_memory { IfErr result (λ e. end ≡ Err (error.NoMemory e)) }
+{
+    match end {
+        Ok(()) => Ok(None),
+        Err(ReadError::Fault(fault)) => Ok(Some(fault)),
+        Err(ReadError::NoMemory(e)) => Err(e),
+    }
+}
+
+// What the program `runsheet` prints of a text: its calls up to the first fault, each with the answer that the rule
+// book gives, and then the cells that are left, or the fault.
+pub fn run_sheet(heap: Global, text: &[u8]) -> Result<String, AllocError>
+    ensures says { IfOk result (λ out. SheetOf text.now (string_bytes out)) }
+    ensures once { SheetOnce }
+{
+    let Reading { scenario, end } = read(heap, text);
+    let fault = fault_at(end)?;
+    let sheet = sheet_of(heap, &scenario, fault)?;
+    format!(in heap; "{sheet}")
+}

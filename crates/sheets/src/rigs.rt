@@ -1,0 +1,130 @@
+// The run of a scenario on the rig that its rig line names. Each pair of a board and a policy is compiled by itself.
+ghost use Rattle.std.specs.Prelude.{◌≡◌, IfOk, vec_items};
+ghost use Rattle.std.specs.Option.{ForSome};
+ghost use Rattle.rules.specs.Kit.{kit_of};
+ghost use Rattle.scenario.specs.Holdings.{entries_of};
+ghost use Rattle.sheets.specs.Kits.{kit_on, kit_named};
+ghost use Rattle.sheets.specs.Starts.{CanBegin};
+ghost use Rattle.sheets.specs.Sheets.{held_lines, held_run, sheet_lines};
+
+use crate::ends::rows_of;
+use crate::starts::{cells_before, empty_slots, made_calls};
+use crate::types::{End, Sheet};
+use entries::{BoardName, PolicyName, RigLine};
+use faults::RigFault;
+use parts::{Board, Careful, LinesBoard, Margin, Plain, Policy, StoresBoard};
+use runs::{RunError, SetUp, run};
+use scenario::Scenario;
+use std::alloc::{AllocError, Global};
+
+// The sheet of a scenario on this rig.
+fn sheet_with<B: Board + Drop, P: Policy + Drop>(
+    heap: Global,
+    set_up: SetUp<B, P>,
+    scenario: &Scenario,
+    fault: Option<RigFault>,
+) -> Result<Sheet, AllocError>
+    requires { CanBegin set_up.heads set_up.cells (vec_items scenario.now.settings) }
+    ensures { let kit = kit_of ⟦<i32 as parts::Word>⟧ B.Board P.Policy set_up.board set_up.policy in
+        IfOk result (λ s. held_lines s ≡ held_run kit set_up.heads set_up.cells scenario.now fault) }
+{
+    let calls = made_calls(heap, &scenario.calls)?;
+    let mut cells = cells_before(heap, set_up.cells, &scenario.settings)?;
+    let mut reads = empty_slots(heap, set_up.heads)?;
+    let mut writes = empty_slots(heap, set_up.heads)?;
+    let run = match run(heap, set_up, &calls, &mut cells, &mut reads, &mut writes) {
+        Ok(run) => run,
+        Err(RunError::NoMemory(e)) => return Err(e),
+        // a text with such a rig is faulty
+        Err(RunError::NotSetUp(_)) => unreachable!(),
+    };
+    let rows = rows_of(heap, &scenario.calls, &run.answers)?;
+    let end = End::new(heap, &cells, fault)?;
+    Ok(Sheet { rows, end })
+}
+
+// The sheet of a scenario on this board, under the policy that its rig line names.
+fn sheet_on<B: Board + Drop>(
+    heap: Global,
+    rig: RigLine,
+    board: B,
+    scenario: &Scenario,
+    fault: Option<RigFault>,
+) -> Result<Sheet, AllocError>
+    requires { CanBegin rig.heads rig.cells (vec_items scenario.now.settings) }
+    ensures { let kit = kit_on (B.line board) (B.fits board) rig.policy in
+        IfOk result (λ s. held_lines s ≡ held_run kit rig.heads rig.cells scenario.now fault) }
+{
+    let RigLine {
+        heads,
+        cells,
+        policy,
+        ..
+    } = rig;
+    match policy {
+        PolicyName::Plain => {
+            let set_up = SetUp {
+                heads,
+                cells,
+                board,
+                policy: Plain,
+            };
+            sheet_with(heap, set_up, scenario, fault)
+        }
+        PolicyName::Careful => {
+            let set_up = SetUp {
+                heads,
+                cells,
+                board,
+                policy: Careful,
+            };
+            sheet_with(heap, set_up, scenario, fault)
+        }
+    }
+}
+
+// The sheet of a scenario on the board that its rig line names, under a margin.
+fn sheet_of_rig(
+    heap: Global,
+    rig: RigLine,
+    scenario: &Scenario,
+    fault: Option<RigFault>,
+) -> Result<Sheet, AllocError>
+    requires { CanBegin rig.heads rig.cells (vec_items scenario.now.settings) }
+    ensures { let kit = kit_named rig.board rig.policy in
+        IfOk result (λ s. held_lines s ≡ held_run kit rig.heads rig.cells scenario.now fault) }
+{
+    match rig.board {
+        BoardName::Stores => {
+            let board = Margin { below: StoresBoard };
+            sheet_on(heap, rig, board, scenario, fault)
+        }
+        BoardName::Lines => {
+            let board = Margin { below: LinesBoard };
+            sheet_on(heap, rig, board, scenario, fault)
+        }
+    }
+}
+
+// The sheet of a scenario that was read up to its end or its first fault.
+#[tactic(auto, using(crate::proofs::Scenarios::lines_without_rig))]
+pub(crate) fn sheet_of(
+    heap: Global,
+    scenario: &Scenario,
+    fault: Option<RigFault>,
+) -> Result<Sheet, AllocError>
+    requires { ForSome scenario.now.rig
+        (λ r. CanBegin r.heads r.cells (vec_items scenario.now.settings)) }
+    ensures { IfOk result (λ s. held_lines s ≡ sheet_lines (entries_of scenario.now) fault) }
+{
+    match scenario.rig {
+        Some(rig) => sheet_of_rig(heap, rig, scenario, fault),
+        None => {
+            let end = End::new(heap, &[], fault)?;
+            Ok(Sheet {
+                rows: Vec::new(heap),
+                end,
+            })
+        }
+    }
+}
