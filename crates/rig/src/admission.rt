@@ -1,11 +1,29 @@
 // Which calls a head takes.
-ghost use Rattle.std.specs.Prelude.{◌≡◌, IfOk};
+ghost use Rattle.std.specs.Prelude.{◌≡◌, ◌*◌, ◌≤◌, IfOk, length, true};
 ghost use Rattle.rules.specs.Bench.{bench};
 ghost use Rattle.rules.specs.Bounds.{InBounds};
+ghost use Rattle.rules.specs.Refusals.{lengths_match};
 ghost use Rattle.rig.specs.Admission.{admission, Admits};
 
 use parts::{Call, Word};
 use rules::{Caller, Head, Refusal, Slot, State, Table};
+
+// Whether the lists are as long as the cells, and as 32 slots for each head.
+pub(crate) fn lengths_match<W: Word>(
+    table: &Table,
+    cells: &[W],
+    reads: &[Slot<W>],
+    writes: &[Slot<W>],
+) -> bool
+    requires { table.now.head_count ≤ 8 }
+    ensures answer { result ≡ lengths_match (bench table.now cells.now reads.now writes.now) }
+    ensures cells { result ≡ true → length cells.now ≡ table.now.cell_count }
+    ensures reads { result ≡ true → length reads.now ≡ 32 * table.now.head_count }
+    ensures writes { result ≡ true → length writes.now ≡ 32 * table.now.head_count }
+{
+    let slots = 32 * table.head_count as usize;
+    cells.len() == table.cell_count as usize && reads.len() == slots && writes.len() == slots
+}
 
 // The head that calls, unless a list has a wrong length, there is no such head or cell, the handle is stale, or the
 // head's state does not take the call.
@@ -21,8 +39,7 @@ pub(crate) fn admit<W: Word>(
     ensures answer { result ≡ admission (bench table.now cells.now reads.now writes.now) who call }
     ensures known { IfOk result (λ h. Admits (bench table.now cells.now reads.now writes.now) who call h) }
 {
-    let slots = 32 * table.head_count as usize;
-    if cells.len() != table.cell_count as usize || reads.len() != slots || writes.len() != slots {
+    if !lengths_match(table, cells, reads, writes) {
         return Err(Refusal::Lists);
     }
     if who.head >= table.head_count {

@@ -2,11 +2,13 @@
 ghost use Rattle.std.specs.Prelude.{◌≡◌, IfErr, IfOk, Ok, Err};
 ghost use Rattle.parts.specs.declared.types.Mode.{Mode as Modes};
 ghost use Rattle.rules.specs.Kit.{kit_of};
-ghost use Rattle.rules.specs.Bench.{bench};
+ghost use Rattle.rules.specs.Bench.{bench, head_of};
 ghost use Rattle.rules.specs.Bounds.{InBounds};
+ghost use Rattle.rules.specs.Refusals.{lengths_match};
 ghost use Rattle.rules.specs.Calls.{outcome, set_up, open_of, push_of, jolt_of, drop_of};
 ghost use Rattle.rules.specs.Calls.{read_of, write_of, close_of, again_of};
 
+use crate::admission::lengths_match;
 use crate::closing::close;
 use crate::reading::read;
 use crate::simple::{again, cancel, jolt, open};
@@ -64,6 +66,24 @@ impl<B: Board, P: Policy> Rig<B, P> {
             policy,
             table,
         })
+    }
+
+    // What the rig keeps of a head, if there is such a head.
+    pub fn head(&self, head: u32) -> Option<Head>
+        ensures { result ≡ head_of self.now.table head }
+    {
+        if head < self.table.head_count {
+            Some(self.table.heads[head as usize])
+        } else {
+            None
+        }
+    }
+
+    // Whether the lists have the right lengths: with others every call is refused.
+    pub fn lists_match<W: Word>(&self, cells: &[W], reads: &[Slot<W>], writes: &[Slot<W>]) -> bool
+        ensures { result ≡ lengths_match (bench self.now.table cells.now reads.now writes.now) }
+    {
+        lengths_match(&self.table, cells, reads, writes)
     }
 
     // Begins a transaction of an idle head, in hardware.

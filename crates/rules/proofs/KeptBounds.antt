@@ -23,7 +23,7 @@ use Rattle.rules.specs.Heads.{new_head, is_idle, is_hardware, is_software, is_wr
 use Rattle.rules.specs.Bench.{Bench, head_at, table_with, read_log, write_log, present_snapshot, is_odd, lock_out, after_loads, cells_validated}
 use Rattle.rules.specs.Calls.{Outcome, admitted_open, admitted_read, admitted_write, admitted_close, admitted_push, admitted_jolt, admitted_again, admitted_drop, start_write_back, in_range, new_table, again_mode, is_last}
 use Rattle.rules.specs.Answers.{Answer}
-use Rattle.rules.specs.Bounds.{HeadBounds, InBounds, SameLengths, BoundsAtSetUp, BoundsKept}
+use Rattle.rules.specs.Bounds.{HeadBounds, InBounds, SameSizes, BoundsAtSetUp, BoundsKept}
 use Rattle.rules.proofs.Records.{become, wrote, resnap, read_more, wrote_more, cancel}
 use Rattle.rules.proofs.Basics.{by-test, some-length}
 use Rattle.rules.proofs.Admitted.{Admitted, admitted}
@@ -66,7 +66,7 @@ length-put-in (s ∷ log) cells = length-put-in log (set cells s.cell s.word) �
 
 -- in bounds, with lists as long as before
 abbrev Kept : {W : Type 0} → Bench W → Bench W → Type 0
-Kept b o = InBounds o.table × SameLengths b o
+Kept b o = InBounds o.table × SameSizes b o
 
 module _ {W : Type 0} (kit : Kit W) (b : Bench W) (s : InBounds b.table) (k : ℕ) (lt : k < 8) where
   abbrev h : Head
@@ -78,8 +78,8 @@ module _ {W : Type 0} (kit : Kit W) (b : Bench W) (s : InBounds b.table) (k : �
   own : HeadBounds h
   own = let e = s.eight in All-get_or HeadBounds heads k new_head (omega arith) s.heads
 
-  lengths : (t : Table) → SameLengths b (record b { table = t })
-  lengths t = record { cells = refl; reads = refl; writes = refl }
+  sizes : (t : Table) → t.head_count ≡ b.table.head_count → t.cell_count ≡ b.table.cell_count → SameSizes b (record b { table = t })
+  sizes t heads cells = record { head_count = heads; cell_count = cells; cells = refl; reads = refl; writes = refl }
 
   open_kept : is_idle h.state ≡ true → b.table.opened < 60_000 → Kept b (admitted_open b k).left
   open_kept idle few =
@@ -87,7 +87,7 @@ module _ {W : Type 0} (kit : Kit W) (b : Bench W) (s : InBounds b.table) (k : �
       let old : busy h ≡ 0 = ap (λ t. cond t 0 1) idle in (
         bounds-with b.table s k lt heads (swept_none heads) (begin mode.Hardware (present_snapshot b.table) (with_transaction n h)) (open-bounds h own n (present_snapshot b.table))
             b.table.sequence b.table.commits n (omega arith) (omega arith) (omega arith) (omega arith),
-        lengths _,
+        sizes _ refl refl,
       )
 
   -- every other call is one of a transaction
@@ -104,15 +104,15 @@ module _ {W : Type 0} (kit : Kit W) (b : Bench W) (s : InBounds b.table) (k : �
 
     read_kept : (c : ℕ) → 32 * k + 32 ≤ length b.reads → (not (names c (write_log b k)) && lacks_room_for c (read_log b k)) ≡ false → Kept b (admitted_read kit b k c).left
     read_kept c room slot =
-        by_read kit b k c (λ (o : Outcome W W). Kept b o.left) (λ _. (s, lengths _)) (s, lengths _)
+        by_read kit b k c (λ (o : Outcome W W). Kept b o.left) (λ _. (s, sizes _ refl refl)) (s, sizes _ refl refl)
         (λ e ys p snap w.
         let log = note c w (read_log b k) in
         let free : lacks_room_for c (read_log b k) ≡ false = sym (ap (λ t. not t && lacks_room_for c (read_log b k)) (word_none c (write_log b k) e)) ∙ slot in
         let few : length log ≤ 32 = few-noted c w (read_log b k) (omega (arith, length-log k h.read_count b.reads, own.reads)) free in (
           keeps ys p (read_more (length log) (resnap snap h)) (read-bounds (resnap snap h) (resnap-bounds h own snap) (length log) few) going refl,
-          record { cells = refl; reads = length-laid k log b.reads few room; writes = refl },
+          record { head_count = refl; cell_count = refl; cells = refl; reads = length-laid k log b.reads few room; writes = refl },
         ))
-        (λ ys p cause. (aborted ys p cause, lengths _))
+        (λ ys p cause. (aborted ys p cause, sizes _ refl refl))
 
     write_kept : (c : ℕ) (w : W) → is_writing_back h.state ≡ false → 32 * k + 32 ≤ length b.writes → lacks_room_for c (write_log b k) ≡ false → Kept b (admitted_write kit b k c w).left
     write_kept c w not_back room free =
@@ -121,8 +121,8 @@ module _ {W : Type 0} (kit : Kit W) (b : Bench W) (s : InBounds b.table) (k : �
         let x = wrote_more (length log) h in
         let px = write-bounds h own (length log) few not_back in
         let len = length-laid k log b.writes few room in
-        by-write kit b k c w (λ (o : Outcome (Unit {0}) W). Kept b o.left) (λ ys p. (keeps ys p x px going refl, record { cells = refl; reads = refl; writes = len }))
-        (keeps heads (swept_none heads) (abort Capacity x) (abort-bounds x px Capacity) refl refl, record { cells = refl; reads = refl; writes = len })
+        by-write kit b k c w (λ (o : Outcome (Unit {0}) W). Kept b o.left) (λ ys p. (keeps ys p x px going refl, record { head_count = refl; cell_count = refl; cells = refl; reads = refl; writes = len }))
+        (keeps heads (swept_none heads) (abort Capacity x) (abort-bounds x px Capacity) refl refl, record { head_count = refl; cell_count = refl; cells = refl; reads = refl; writes = len })
 
     -- a head that writes back has taken the lock while it was free, so half of the sequence stays
     starts : is_software h.state ≡ true → is_empty (write_log b k) ≡ false → ((is_software h.state && not (is_empty (write_log b k))) && is_odd b.table.sequence) ≡ false
@@ -142,10 +142,10 @@ module _ {W : Type 0} (kit : Kit W) (b : Bench W) (s : InBounds b.table) (k : �
         by-close kit b k (λ (o : Outcome Closing W). Kept b o.left)
         (λ _. (
           ends (become Idle h) (idle-bounds h own h.written own.written) refl refl b.table.sequence (b.table.commits + 1) (omega arith),
-          record { cells = length-put-in (write_log b k) b.cells; reads = refl; writes = refl },
+          record { head_count = refl; cell_count = refl; cells = length-put-in (write_log b k) b.cells; reads = refl; writes = refl },
         ))
-        (ends (become Idle h) (idle-bounds h own h.written own.written) refl refl b.table.sequence b.table.commits (omega arith), lengths _)
-        (λ f some. (starts (software f) some free, lengths _)) (λ ys p. (aborted ys p Changed, lengths _))
+        (ends (become Idle h) (idle-bounds h own h.written own.written) refl refl b.table.sequence b.table.commits (omega arith), sizes _ refl refl)
+        (λ f some. (starts (software f) some free, sizes _ refl refl)) (λ ys p. (aborted ys p Changed, sizes _ refl refl))
 
     push_kept : is_writing_back h.state ≡ true → Kept b (admitted_push b k).left
     push_kept writing =
@@ -160,19 +160,19 @@ module _ {W : Type 0} (kit : Kit W) (b : Bench W) (s : InBounds b.table) (k : �
               (λ _. ends (become Idle x) (idle-bounds h own (h.written + 1) few) refl refl (b.table.sequence + 1) b.table.commits (omega arith))
               (λ f. keeps heads (swept_none heads) (become WritingBack x)
               (back-bounds h own (h.written + 1) (omega (arith, leb-false (length (write_log b k)) (h.written + 1) f, length-log k h.write_count b.writes))) refl refl),
-          record { cells = length-put-in (take 1 (drop h.written (write_log b k))) b.cells; reads = refl; writes = refl },
+          record { head_count = refl; cell_count = refl; cells = length-put-in (take 1 (drop h.written (write_log b k))) b.cells; reads = refl; writes = refl },
         )
 
     jolt-kept : Kept b (admitted_jolt b k).left
-    jolt-kept = (aborted heads (swept_none heads) Other, lengths _)
+    jolt-kept = (aborted heads (swept_none heads) Other, sizes _ refl refl)
 
     again_kept : h.attempts < 70_000 → Kept b (admitted_again kit b k).left
     again_kept few =
         let m = again_mode kit b k in
-        (keeps heads (swept_none heads) (begin m (present_snapshot b.table) h) (begin-bounds h own m (present_snapshot b.table) few) (begun-busy m) refl, lengths _)
+        (keeps heads (swept_none heads) (begin m (present_snapshot b.table) h) (begin-bounds h own m (present_snapshot b.table) few) (begun-busy m) refl, sizes _ refl refl)
 
     drop-kept : Kept b (admitted_drop b k).left
-    drop-kept = (ends (cancel h) (cancel-bounds h own) refl refl b.table.sequence b.table.commits (omega arith), lengths _)
+    drop-kept = (ends (cancel h) (cancel-bounds h own) refl refl b.table.sequence b.table.commits (omega arith), sizes _ refl refl)
 
 module _ {W : Type 0} (kit : Kit W) (b : Bench W) (s : InBounds b.table) (who : Caller) where
   abbrev k : ℕ
@@ -196,5 +196,5 @@ module _ {W : Type 0} (kit : Kit W) (b : Bench W) (s : InBounds b.table) (who : 
 
 pub bounds-kept : {W : Type 0} (kit : Kit W) → BoundsKept kit
 bounds-kept {W} kit b who call s =
-    by_call kit b who call (λ (r : Answer W × Bench W). Kept b r.1) (λ e _. (s, record { cells = refl; reads = refl; writes = refl }))
+    by_call kit b who call (λ (r : Answer W × Bench W). Kept b r.1) (λ e _. (s, record { head_count = refl; cell_count = refl; cells = refl; reads = refl; writes = refl }))
     (λ q. let a = admitted b who call q in granted-kept kit b s who call a (omega (arith, a.head, s.few_heads)))

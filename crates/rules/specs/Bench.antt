@@ -1,5 +1,5 @@
 -- A rig on the bench: its table and the three lists, what its heads do to one another, and validation.
-use Rattle.std.specs.Prelude.{ℕ, ◌+◌, ◌%◌, Bool, not, ◌&&◌, ◌||◌, List, [], ◌∷◌, ◌==◌, slice_index_or, slice_set, if◌then◌else◌}
+use Rattle.std.specs.Prelude.{ℕ, ◌+◌, ◌%◌, Bool, not, ◌&&◌, ◌||◌, List, [], ◌∷◌, ◌==◌, slice_index_or, slice_set, if◌then◌else◌, nat_lt, Some, None, Option}
 use Rattle.std.specs.List.{list_any, list_all}
 use Rattle.parts.specs.declared.types.Cause.TheVariants.{Conflict, Lock}
 use Rattle.rules.specs.declared.types.Head.{Head}
@@ -32,6 +32,10 @@ map_at f k (x ∷ xs) = f k x ∷ map_at f (k + 1) xs
 -- the bench of a table and three lists
 abbrev pub bench : {W : Type 0} → Table → List W → List (Slot W) → List (Slot W) → Bench W
 bench t cells reads writes = record { table = t; cells = cells; reads = reads; writes = writes }
+
+-- the record of the head k, if there is such a head
+abbrev pub head_of : Table → ℕ → Option Head
+head_of t k = if nat_lt k t.head_count then Some (slice_index_or t.heads k new_head) else None
 
 module _ {W : Type 0} (b : Bench W) (k : ℕ) where
   -- the record of the head k, and its two logs

@@ -37,8 +37,10 @@ pub record InBounds (t : Table) : Type 0 where
   pub numbered : All (λ (h : Head). h.transaction ≤ t.opened) t.heads
   pub used : active_heads t.heads + (t.commits + t.sequence / 2) ≤ t.opened
 
--- the lists keep their lengths
-pub record SameLengths {W : Type 0} (old new : Bench W) : Type 0 where
+-- the rig keeps its heads and cells, and the lists their lengths
+pub record SameSizes {W : Type 0} (old new : Bench W) : Type 0 where
+  pub head_count : new.table.head_count ≡ old.table.head_count
+  pub cell_count : new.table.cell_count ≡ old.table.cell_count
   pub cells : length new.cells ≡ length old.cells
   pub reads : length new.reads ≡ length old.reads
   pub writes : length new.writes ≡ length old.writes
@@ -49,4 +51,4 @@ BoundsAtSetUp = (heads cells : ℕ) (t : Table) → set_up heads cells ≡ Ok t 
 abbrev pub BoundsKept : {W : Type 0} → Kit W → Type 0
 BoundsKept {W} kit =
     (b : Bench W) (who : Caller) (call : Call ℕ W) → InBounds b.table
-    → InBounds (call_of kit b who call).1.table × SameLengths b (call_of kit b who call).1
+    → InBounds (call_of kit b who call).1.table × SameSizes b (call_of kit b who call).1

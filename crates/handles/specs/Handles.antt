@@ -1,0 +1,93 @@
+-- Calls by handle: what each gives for the rule book's answer, and which handle comes back.
+use Rattle.std.specs.Prelude.{ℕ, ◌+◌, ◌-◌, Bool, true, false, not, Some, None, Ok, Err, Option, Result, ◌==◌, if◌then◌else◌}
+use Rattle.parts.specs.declared.types.Mode.{Mode}
+use Rattle.rules.specs.declared.types.Caller.{Caller}
+use Rattle.rules.specs.declared.types.Closing.{Closing}
+use Rattle.rules.specs.declared.types.Closing.TheVariants as closing
+use Rattle.rules.specs.declared.types.Head.{Head}
+use Rattle.rules.specs.declared.types.Refusal.{Refusal}
+use Rattle.rules.specs.declared.types.Refusal.TheVariants.{NoHead, NotTaken, StaleHandle}
+use Rattle.rules.specs.Heads.{is_aborted}
+use Rattle.rules.specs.Bench.{Bench}
+use Rattle.rules.specs.Calls.{push_of}
+use Rattle.handles.specs.declared.types.Running.{Running}
+use Rattle.handles.specs.declared.types.Aborted.{Aborted}
+use Rattle.handles.specs.declared.types.WritingBack.{WritingBack}
+use Rattle.handles.specs.declared.types.Begun.{Begun}
+use Rattle.handles.specs.declared.types.Closed.{Closed}
+use Rattle.handles.specs.declared.types.Closed.TheVariants as closed
+use Rattle.handles.specs.declared.types.Pushed.{Pushed}
+use Rattle.handles.specs.declared.types.Pushed.TheVariants as pushed
+use Rattle.handles.specs.declared.types.Refused.{Refused}
+
+-- not granted: why, and the handle that comes back
+abbrev pub refused : {H : Type 0} → H → Refusal → Refused H
+refused h e = record { refusal = e; handle = h }
+
+-- the running handle of an attempt that has begun
+abbrev pub begun : ℕ → ℕ → Mode → Begun
+begun k n m = record { handle = record { head = k; transaction = n }; mode = m }
+
+-- open: a granted one gives a running handle of the head k and of the number n that its transaction takes
+abbrev pub after_open : ℕ → ℕ → Result Mode Refusal → Result Begun Refusal
+after_open k n (Ok m) = Ok (begun k n m)
+after_open k n (Err e) = Err e
+
+-- again: a granted one gives a running handle for the aborted one
+abbrev pub after_again : Aborted → Result Mode Refusal → Result Begun (Refused Aborted)
+after_again h (Ok m) = Ok (begun h.head h.transaction m)
+after_again h (Err e) = Err (refused h e)
+
+-- close: a granted one uses the handle up; if the head is then writing back, there is a handle for that
+abbrev pub after_close : Running → Result Closing Refusal → Result Closed (Refused Running)
+after_close h (Ok (closing.Complete n)) = Ok (closed.Complete n)
+after_close h (Ok (closing.WritingBack n)) = Ok (closed.WritingBack (record { head = h.head; transaction = h.transaction }) n)
+after_close h (Err e) = Err (refused h e)
+
+-- drop: a granted one uses the handle up
+abbrev pub after_drop : {H : Type 0} → H → Result (Unit {0}) Refusal → Result (Unit {0}) (Refused H)
+after_drop h (Ok u) = Ok u
+after_drop h (Err e) = Err (refused h e)
+
+-- a writing-back handle is used up by 3, 5 and 12: its head does not write back for it
+abbrev pub uses_up : Refusal → Bool
+uses_up NoHead = true
+uses_up NotTaken = true
+uses_up StaleHandle = true
+uses_up e = false
+
+abbrev pub not_pushed : WritingBack → Refusal → Refused (Option WritingBack)
+not_pushed h e = refused (if uses_up e then None else Some h) e
+
+-- push: the handle serves until no slot is left
+abbrev pub after_push : WritingBack → Result ℕ Refusal → Result Pushed (Refused (Option WritingBack))
+after_push h (Ok n) = Ok (if n == 0 then pushed.Done else pushed.Left h n)
+after_push h (Err e) = Err (not_pushed h e)
+
+-- so many pushes by one caller
+abbrev pub left_by_pushes : {W : Type 0} → ℕ → Bench W → Caller → Bench W
+left_by_pushes 0 b who = b
+left_by_pushes (suc n) b who = left_by_pushes n (push_of b who).left who
+
+-- pushing until no slot is left takes a push for each slot of the write log that is not written back yet; but if the
+-- first is refused there is no other
+abbrev pub pushes_needed : Option Refusal → Head → ℕ
+pushes_needed None h = h.write_count - h.written
+pushes_needed (Some e) h = 0
+
+abbrev pub after_pushes : WritingBack → Option Refusal → ℕ → Result ℕ (Refused (Option WritingBack))
+after_pushes h None n = Ok n
+after_pushes h (Some e) n = Err (not_pushed h e)
+
+-- the exchange of a running handle for an aborted one is no call: it asks for no lists, and changes nothing. It is refused
+-- with 3 where there is no such head, then with 12, and then with 5 where the head has not aborted
+abbrev pub exchange_of : Running → Option Head → Result Aborted Refusal
+exchange_of h None = Err NoHead
+exchange_of h (Some head) =
+    if h.transaction == head.transaction
+    then (if is_aborted head.state then Ok (record { head = h.head; transaction = h.transaction }) else Err NotTaken)
+    else Err StaleHandle
+
+abbrev pub after_exchange : Running → Result Aborted Refusal → Result Aborted (Refused Running)
+after_exchange h (Ok a) = Ok a
+after_exchange h (Err e) = Err (refused h e)

@@ -1,0 +1,226 @@
+// Calls by the handle of a transaction that has not closed.
+ghost use Rattle.std.specs.Prelude.{◌≡◌, ◌+◌};
+ghost use Rattle.rules.specs.Kit.{kit_of};
+ghost use Rattle.rules.specs.Bench.{bench, head_of};
+ghost use Rattle.rules.specs.Refusals.{by_handle, by_number, lengths_match};
+ghost use Rattle.rules.specs.Calls.{outcome, open_of, jolt_of, drop_of, read_of, write_of, close_of, again_of};
+ghost use Rattle.handles.specs.Handles.{after_again, after_close, after_drop, after_exchange, after_open, exchange_of};
+
+use crate::types::{Aborted, Begun, Closed, Refused, Running, WritingBack, by_handle};
+use parts::{Board, Policy, Word};
+use rig::Rig;
+use rules::{Caller, Closing, Refusal, Slot, State};
+
+impl Running {
+    // Begins a transaction of an idle head, in hardware. The handle has the next transaction number.
+    pub fn open<B: Board, P: Policy, W: Word>(
+        rig: &mut Rig<B, P>,
+        head: u32,
+        cells: &[W],
+        reads: &[Slot<W>],
+        writes: &[Slot<W>],
+    ) -> Result<Begun, Refusal>
+        ensures answer { let before = bench rig.old.table cells.now reads.now writes.now in
+            result ≡ after_open head (rig.old.table.opened + 1) (open_of before (by_number head)).answer }
+        ensures left { let before = bench rig.old.table cells.now reads.now writes.now in
+            bench rig.new.table cells.now reads.now writes.now ≡ (open_of before (by_number head)).left }
+        ensures kept { (rig.new.board ≡ rig.old.board) × (rig.new.policy ≡ rig.old.policy) }
+    {
+        let who = Caller {
+            head,
+            transaction: None,
+        };
+        let mode = rig.open(who, cells, reads, writes)?;
+        let record = rig.head(head).ok_or(Refusal::NoHead)?;
+        let handle = Running {
+            head,
+            transaction: record.transaction,
+        };
+        Ok(Begun { handle, mode })
+    }
+
+    // Reads a cell: the word that the transaction has written there, or else the cell's.
+    pub fn read<B: Board, P: Policy, W: Word>(
+        &self,
+        rig: &mut Rig<B, P>,
+        cell: u32,
+        cells: &[W],
+        reads: &mut [Slot<W>],
+        writes: &[Slot<W>],
+    ) -> Result<W, Refusal>
+        ensures outcome { let kit = kit_of W.Word B.Board P.Policy rig.old.board rig.old.policy in
+            let before = bench rig.old.table cells.now reads.old writes.now in
+            outcome result (bench rig.new.table cells.now reads.new writes.now)
+            ≡ read_of kit before (by_handle self.now.head self.now.transaction) cell }
+        ensures kept { (rig.new.board ≡ rig.old.board) × (rig.new.policy ≡ rig.old.policy) }
+    {
+        rig.read(by_handle(self.head, self.transaction), cell, cells, reads, writes)
+    }
+
+    // Writes a word to a cell, into the write log.
+    pub fn write<B: Board, P: Policy, W: Word>(
+        &self,
+        rig: &mut Rig<B, P>,
+        cell: u32,
+        word: W,
+        cells: &[W],
+        reads: &[Slot<W>],
+        writes: &mut [Slot<W>],
+    ) -> Result<(), Refusal>
+        ensures outcome { let kit = kit_of W.Word B.Board P.Policy rig.old.board rig.old.policy in
+            let before = bench rig.old.table cells.now reads.now writes.old in
+            outcome result (bench rig.new.table cells.now reads.now writes.new)
+            ≡ write_of kit before (by_handle self.now.head self.now.transaction) cell word }
+        ensures kept { (rig.new.board ≡ rig.old.board) × (rig.new.policy ≡ rig.old.policy) }
+    {
+        rig.write(by_handle(self.head, self.transaction), cell, word, cells, reads, writes)
+    }
+
+    // Commits, and is used up by it. If the writes are still to be pushed, there is a handle for that.
+    pub fn close<B: Board, P: Policy, W: Word>(
+        self,
+        rig: &mut Rig<B, P>,
+        cells: &mut [W],
+        reads: &[Slot<W>],
+        writes: &[Slot<W>],
+    ) -> Result<Closed, Refused<Running>>
+        ensures answer { let kit = kit_of W.Word B.Board P.Policy rig.old.board rig.old.policy in
+            let before = bench rig.old.table cells.old reads.now writes.now in
+            result ≡ after_close self (close_of kit before (by_handle self.head self.transaction)).answer }
+        ensures left { let kit = kit_of W.Word B.Board P.Policy rig.old.board rig.old.policy in
+            let before = bench rig.old.table cells.old reads.now writes.now in
+            bench rig.new.table cells.new reads.now writes.now ≡ (close_of kit before (by_handle self.head self.transaction)).left }
+        ensures kept { (rig.new.board ≡ rig.old.board) × (rig.new.policy ≡ rig.old.policy) }
+    {
+        match rig.close(by_handle(self.head, self.transaction), cells, reads, writes) {
+            Ok(Closing::Complete(attempts)) => Ok(Closed::Complete(attempts)),
+            Ok(Closing::WritingBack(attempts)) => {
+                let handle = WritingBack {
+                    head: self.head,
+                    transaction: self.transaction,
+                };
+                Ok(Closed::WritingBack(handle, attempts))
+            }
+            Err(refusal) => Err(Refused {
+                refusal,
+                handle: self,
+            }),
+        }
+    }
+
+    // Interrupts an attempt in hardware, which aborts it.
+    pub fn jolt<B: Board, P: Policy, W: Word>(
+        &self,
+        rig: &mut Rig<B, P>,
+        cells: &[W],
+        reads: &[Slot<W>],
+        writes: &[Slot<W>],
+    ) -> Result<(), Refusal>
+        ensures outcome { let before = bench rig.old.table cells.now reads.now writes.now in
+            outcome result (bench rig.new.table cells.now reads.now writes.now)
+            ≡ jolt_of before (by_handle self.now.head self.now.transaction) }
+        ensures kept { (rig.new.board ≡ rig.old.board) × (rig.new.policy ≡ rig.old.policy) }
+    {
+        rig.jolt(by_handle(self.head, self.transaction), cells, reads, writes)
+    }
+
+    // Gives the transaction up, and is used up by it.
+    pub fn drop<B: Board, P: Policy, W: Word>(
+        self,
+        rig: &mut Rig<B, P>,
+        cells: &[W],
+        reads: &[Slot<W>],
+        writes: &[Slot<W>],
+    ) -> Result<(), Refused<Running>>
+        ensures answer { let before = bench rig.old.table cells.now reads.now writes.now in
+            result ≡ after_drop self (drop_of before (by_handle self.head self.transaction)).answer }
+        ensures left { let before = bench rig.old.table cells.now reads.now writes.now in
+            bench rig.new.table cells.now reads.now writes.now ≡ (drop_of before (by_handle self.head self.transaction)).left }
+        ensures kept { (rig.new.board ≡ rig.old.board) × (rig.new.policy ≡ rig.old.policy) }
+    {
+        match rig.drop(by_handle(self.head, self.transaction), cells, reads, writes) {
+            Ok(()) => Ok(()),
+            Err(refusal) => Err(Refused {
+                refusal,
+                handle: self,
+            }),
+        }
+    }
+
+    // The handle of the same transaction as one that has aborted, if its head has.
+    pub fn into_aborted<B: Board, P: Policy>(self, rig: &Rig<B, P>) -> Result<Aborted, Refused<Running>>
+        ensures { result ≡ after_exchange self (exchange_of self (head_of rig.now.table self.head)) }
+    {
+        let refusal = match rig.head(self.head) {
+            None => Refusal::NoHead,
+            Some(record) if self.transaction != record.transaction => Refusal::StaleHandle,
+            Some(record) => match record.state {
+                State::Aborted(_) => {
+                    return Ok(Aborted {
+                        head: self.head,
+                        transaction: self.transaction,
+                    });
+                }
+                _ => Refusal::NotTaken,
+            },
+        };
+        Err(Refused {
+            refusal,
+            handle: self,
+        })
+    }
+}
+
+impl Aborted {
+    // Tries the transaction again, for which there is a running handle again.
+    pub fn again<B: Board, P: Policy, W: Word>(
+        self,
+        rig: &mut Rig<B, P>,
+        cells: &[W],
+        reads: &[Slot<W>],
+        writes: &[Slot<W>],
+    ) -> Result<Begun, Refused<Aborted>>
+        ensures answer { let kit = kit_of W.Word B.Board P.Policy rig.old.board rig.old.policy in
+            let before = bench rig.old.table cells.now reads.now writes.now in
+            result ≡ after_again self (again_of kit before (by_handle self.head self.transaction)).answer }
+        ensures left { let kit = kit_of W.Word B.Board P.Policy rig.old.board rig.old.policy in
+            let before = bench rig.old.table cells.now reads.now writes.now in
+            bench rig.new.table cells.now reads.now writes.now ≡ (again_of kit before (by_handle self.head self.transaction)).left }
+        ensures kept { (rig.new.board ≡ rig.old.board) × (rig.new.policy ≡ rig.old.policy) }
+    {
+        let Aborted { head, transaction } = self;
+        match rig.again(by_handle(head, transaction), cells, reads, writes) {
+            Ok(mode) => Ok(Begun {
+                handle: Running { head, transaction },
+                mode,
+            }),
+            Err(refusal) => Err(Refused {
+                refusal,
+                handle: Aborted { head, transaction },
+            }),
+        }
+    }
+
+    // Gives the transaction up, and is used up by it.
+    pub fn drop<B: Board, P: Policy, W: Word>(
+        self,
+        rig: &mut Rig<B, P>,
+        cells: &[W],
+        reads: &[Slot<W>],
+        writes: &[Slot<W>],
+    ) -> Result<(), Refused<Aborted>>
+        ensures answer { let before = bench rig.old.table cells.now reads.now writes.now in
+            result ≡ after_drop self (drop_of before (by_handle self.head self.transaction)).answer }
+        ensures left { let before = bench rig.old.table cells.now reads.now writes.now in
+            bench rig.new.table cells.now reads.now writes.now ≡ (drop_of before (by_handle self.head self.transaction)).left }
+        ensures kept { (rig.new.board ≡ rig.old.board) × (rig.new.policy ≡ rig.old.policy) }
+    {
+        match rig.drop(by_handle(self.head, self.transaction), cells, reads, writes) {
+            Ok(()) => Ok(()),
+            Err(refusal) => Err(Refused {
+                refusal,
+                handle: self,
+            }),
+        }
+    }
+}

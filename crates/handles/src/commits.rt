@@ -1,0 +1,49 @@
+// Calls by the handle of a commit that writes back.
+ghost use Rattle.std.specs.Prelude.{◌≡◌, ◌+◌};
+ghost use Rattle.rules.specs.Bench.{bench};
+ghost use Rattle.rules.specs.Refusals.{by_handle};
+ghost use Rattle.rules.specs.Calls.{push_of};
+ghost use Rattle.handles.specs.Handles.{after_push, not_pushed};
+
+use crate::types::{Pushed, Refused, WritingBack, by_handle};
+use parts::{Board, Policy, Word};
+use rig::Rig;
+use rules::{Refusal, Slot};
+
+impl WritingBack {
+    // Why a push is refused, and the handle, unless its head does not write back for it.
+    fn not_pushed(self, refusal: Refusal) -> Refused<Option<WritingBack>>
+        ensures { result ≡ not_pushed self refusal }
+    {
+        let WritingBack { head, transaction } = self;
+        let handle = match refusal {
+            Refusal::NoHead | Refusal::NotTaken | Refusal::StaleHandle => None,
+            _ => Some(WritingBack { head, transaction }),
+        };
+        Refused { refusal, handle }
+    }
+
+    // Writes back the next slot of the write log. The push that leaves no slot uses the handle up.
+    pub fn push<B: Board, P: Policy, W: Word>(
+        self,
+        rig: &mut Rig<B, P>,
+        cells: &mut [W],
+        reads: &[Slot<W>],
+        writes: &[Slot<W>],
+    ) -> Result<Pushed, Refused<Option<WritingBack>>>
+        ensures answer { let before = bench rig.old.table cells.old reads.now writes.now in
+            result ≡ after_push self (push_of before (by_handle self.head self.transaction)).answer }
+        ensures left { let before = bench rig.old.table cells.old reads.now writes.now in
+            bench rig.new.table cells.new reads.now writes.now ≡ (push_of before (by_handle self.head self.transaction)).left }
+        ensures kept { (rig.new.board ≡ rig.old.board) × (rig.new.policy ≡ rig.old.policy) }
+    {
+        match rig.push(by_handle(self.head, self.transaction), cells, reads, writes) {
+            Ok(0) => {
+                let WritingBack { head: _, transaction: _ } = self;
+                Ok(Pushed::Done)
+            }
+            Ok(left) => Ok(Pushed::Left(self, left)),
+            Err(refusal) => Err(self.not_pushed(refusal)),
+        }
+    }
+}
