@@ -1,5 +1,5 @@
 -- Calls by handle: what each gives for the rule book's answer, and which handle comes back.
-use Rattle.std.specs.Prelude.{ℕ, ◌+◌, ◌-◌, Bool, true, false, not, Some, None, Ok, Err, Option, Result, ◌==◌, if◌then◌else◌}
+use Rattle.std.specs.Prelude.{ℕ, zero, suc, ◌-◌, Bool, true, false, Some, None, Ok, Err, Option, Result, ◌==◌, if◌then◌else◌}
 use Rattle.parts.specs.declared.types.Mode.{Mode}
 use Rattle.rules.specs.declared.types.Caller.{Caller}
 use Rattle.rules.specs.declared.types.Closing.{Closing}
@@ -10,15 +10,15 @@ use Rattle.rules.specs.declared.types.Refusal.TheVariants.{NoHead, NotTaken, Sta
 use Rattle.rules.specs.Heads.{is_aborted}
 use Rattle.rules.specs.Bench.{Bench}
 use Rattle.rules.specs.Calls.{push_of}
-use Rattle.handles.specs.declared.types.Running.{Running}
-use Rattle.handles.specs.declared.types.Aborted.{Aborted}
-use Rattle.handles.specs.declared.types.WritingBack.{WritingBack}
-use Rattle.handles.specs.declared.types.Begun.{Begun}
-use Rattle.handles.specs.declared.types.Closed.{Closed}
-use Rattle.handles.specs.declared.types.Closed.TheVariants as closed
-use Rattle.handles.specs.declared.types.Pushed.{Pushed}
-use Rattle.handles.specs.declared.types.Pushed.TheVariants as pushed
-use Rattle.handles.specs.declared.types.Refused.{Refused}
+use Rattle.handles.specs.declared.attempts.Running.{Running}
+use Rattle.handles.specs.declared.attempts.Aborted.{Aborted}
+use Rattle.handles.specs.declared.commits.WritingBack.{WritingBack}
+use Rattle.handles.specs.declared.attempts.Begun.{Begun}
+use Rattle.handles.specs.declared.attempts.Closed.{Closed}
+use Rattle.handles.specs.declared.attempts.Closed.TheVariants as closed
+use Rattle.handles.specs.declared.commits.Pushed.{Pushed}
+use Rattle.handles.specs.declared.commits.Pushed.TheVariants as pushed
+use Rattle.handles.specs.declared.refusals.Refused.{Refused}
 
 -- not granted: why, and the handle that comes back
 abbrev pub refused : {H : Type 0} → H → Refusal → Refused H
@@ -66,7 +66,7 @@ after_push h (Err e) = Err (not_pushed h e)
 
 -- so many pushes by one caller
 abbrev pub left_by_pushes : {W : Type 0} → ℕ → Bench W → Caller → Bench W
-left_by_pushes 0 b who = b
+left_by_pushes zero b who = b
 left_by_pushes (suc n) b who = left_by_pushes n (push_of b who).left who
 
 -- pushing until no slot is left takes a push for each slot of the write log that is not written back yet; but if the

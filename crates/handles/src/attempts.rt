@@ -1,4 +1,4 @@
-// Calls by the handle of a transaction that has not closed.
+// The handles of a transaction that has not closed, and its calls.
 ghost use Rattle.std.specs.Prelude.{◌≡◌, ◌+◌};
 ghost use Rattle.rules.specs.Kit.{kit_of};
 ghost use Rattle.rules.specs.Bench.{bench, head_of};
@@ -6,10 +6,38 @@ ghost use Rattle.rules.specs.Refusals.{by_handle, by_number, lengths_match};
 ghost use Rattle.rules.specs.Calls.{outcome, open_of, jolt_of, drop_of, read_of, write_of, close_of, again_of};
 ghost use Rattle.handles.specs.Handles.{after_again, after_close, after_drop, after_exchange, after_open, exchange_of};
 
-use crate::types::{Aborted, Begun, Closed, Refused, Running, WritingBack, by_handle};
-use parts::{Board, Policy, Word};
+use crate::commits::WritingBack;
+use crate::refusals::{Refused, by_handle};
+use parts::{Board, Mode, Policy, Word};
 use rig::Rig;
 use rules::{Caller, Closing, Refusal, Slot, State};
+
+// A transaction with an attempt under way, as far as its holder knows: another head may have aborted it.
+#[derive(Drop)]
+pub struct Running {
+    pub(crate) head: u32,
+    pub(crate) transaction: u32,
+}
+
+// A transaction whose latest attempt has aborted.
+#[derive(Drop)]
+pub struct Aborted {
+    pub(crate) head: u32,
+    pub(crate) transaction: u32,
+}
+
+// What a granted open or again gives: the handle, and how its attempt runs.
+#[derive(Drop)]
+pub struct Begun {
+    pub handle: Running,
+    pub mode: Mode,
+}
+
+// A granted close, with the attempts of the transaction: done, or there is a handle for what is to be pushed.
+pub enum Closed {
+    Complete(u32),
+    WritingBack(WritingBack, u32),
+}
 
 impl Running {
     // Begins a transaction of an idle head, in hardware. The handle has the next transaction number.
@@ -54,7 +82,13 @@ impl Running {
             ≡ read_of kit before (by_handle self.now.head self.now.transaction) cell }
         ensures kept { (rig.new.board ≡ rig.old.board) × (rig.new.policy ≡ rig.old.policy) }
     {
-        rig.read(by_handle(self.head, self.transaction), cell, cells, reads, writes)
+        rig.read(
+            by_handle(self.head, self.transaction),
+            cell,
+            cells,
+            reads,
+            writes,
+        )
     }
 
     // Writes a word to a cell, into the write log.
@@ -73,7 +107,14 @@ impl Running {
             ≡ write_of kit before (by_handle self.now.head self.now.transaction) cell word }
         ensures kept { (rig.new.board ≡ rig.old.board) × (rig.new.policy ≡ rig.old.policy) }
     {
-        rig.write(by_handle(self.head, self.transaction), cell, word, cells, reads, writes)
+        rig.write(
+            by_handle(self.head, self.transaction),
+            cell,
+            word,
+            cells,
+            reads,
+            writes,
+        )
     }
 
     // Commits, and is used up by it. If the writes are still to be pushed, there is a handle for that.
@@ -148,7 +189,10 @@ impl Running {
     }
 
     // The handle of the same transaction as one that has aborted, if its head has.
-    pub fn into_aborted<B: Board, P: Policy>(self, rig: &Rig<B, P>) -> Result<Aborted, Refused<Running>>
+    pub fn into_aborted<B: Board, P: Policy>(
+        self,
+        rig: &Rig<B, P>,
+    ) -> Result<Aborted, Refused<Running>>
         ensures { result ≡ after_exchange self (exchange_of self (head_of rig.now.table self.head)) }
     {
         let refusal = match rig.head(self.head) {

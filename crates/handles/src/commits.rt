@@ -1,14 +1,39 @@
-// Calls by the handle of a commit that writes back.
+// The handle of a commit that writes back, and its calls.
 ghost use Rattle.std.specs.Prelude.{◌≡◌, ◌+◌};
 ghost use Rattle.rules.specs.Bench.{bench};
 ghost use Rattle.rules.specs.Refusals.{by_handle};
 ghost use Rattle.rules.specs.Calls.{push_of};
 ghost use Rattle.handles.specs.Handles.{after_push, not_pushed};
 
-use crate::types::{Pushed, Refused, WritingBack, by_handle};
+use crate::refusals::{Refused, by_handle};
 use parts::{Board, Policy, Word};
 use rig::Rig;
 use rules::{Refusal, Slot};
+
+// A software commit that is putting its writes into the cells. While it does, no other head can begin or read, so its
+// handle must not be forgotten: it is pushed until no slot is left.
+pub struct WritingBack {
+    pub(crate) head: u32,
+    pub(crate) transaction: u32,
+}
+
+impl Drop for WritingBack {
+    // Transactions are numbered from 1, so nobody can show this of a handle: no program that lets one go is proved.
+    fn drop(self)
+        requires of_no_transaction { self.transaction ≡ 0 }
+    {
+        let WritingBack {
+            head: _,
+            transaction: _,
+        } = self;
+    }
+}
+
+// A granted push: no slot is left, or so many are.
+pub enum Pushed {
+    Done,
+    Left(WritingBack, u8),
+}
 
 impl WritingBack {
     // Why a push is refused, and the handle, unless its head does not write back for it.
@@ -39,7 +64,10 @@ impl WritingBack {
     {
         match rig.push(by_handle(self.head, self.transaction), cells, reads, writes) {
             Ok(0) => {
-                let WritingBack { head: _, transaction: _ } = self;
+                let WritingBack {
+                    head: _,
+                    transaction: _,
+                } = self;
                 Ok(Pushed::Done)
             }
             Ok(left) => Ok(Pushed::Left(self, left)),

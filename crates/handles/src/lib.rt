@@ -1,8 +1,12 @@
-// The calls of a rig by handles: moved types that cannot be used out of turn, or be forgotten while a commit writes back.
+// The calls of a rig by handles: a transaction by what can be done with it. A handle is a plain pair of a head and a
+// transaction number. It is moved into the call that uses it up, and never copied, so it cannot be used out of turn; and
+// a program that forgets one while its commit writes back is not proved.
 #![tactic(auto)]
 
 mod attempts;
 mod commits;
-mod types;
+mod refusals;
 
-pub use types::{Aborted, Begun, Closed, Pushed, Refused, Running, WritingBack};
+pub use attempts::{Aborted, Begun, Closed, Running};
+pub use commits::{Pushed, WritingBack};
+pub use refusals::Refused;
