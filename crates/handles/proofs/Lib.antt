@@ -1,0 +1,2 @@
+pub mod Pushing
+pub mod Lengths

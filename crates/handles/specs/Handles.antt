@@ -1,5 +1,5 @@
 -- Calls by handle: what each gives for the rule book's answer, and which handle comes back.
-use Rattle.std.specs.Prelude.{ℕ, zero, suc, ◌-◌, Bool, true, false, Some, None, Ok, Err, Option, Result, ◌==◌, if◌then◌else◌}
+use Rattle.std.specs.Prelude.{◌≡◌, ◌+◌, drop, zero, suc, ℕ, zero, suc, ◌-◌, Bool, true, false, Some, None, Ok, Err, Option, Result, ◌==◌, if◌then◌else◌}
 use Rattle.parts.specs.declared.types.Mode.{Mode}
 use Rattle.rules.specs.declared.types.Caller.{Caller}
 use Rattle.rules.specs.declared.types.Closing.{Closing}
@@ -8,7 +8,9 @@ use Rattle.rules.specs.declared.types.Head.{Head}
 use Rattle.rules.specs.declared.types.Refusal.{Refusal}
 use Rattle.rules.specs.declared.types.Refusal.TheVariants.{NoHead, NotTaken, StaleHandle}
 use Rattle.rules.specs.Heads.{is_aborted}
-use Rattle.rules.specs.Bench.{Bench}
+use Rattle.rules.specs.declared.types.State.TheVariants.{Idle}
+use Rattle.rules.specs.Logs.{put_in}
+use Rattle.rules.specs.Bench.{Bench, head_at, write_log}
 use Rattle.rules.specs.Calls.{push_of}
 use Rattle.handles.specs.declared.attempts.Running.{Running}
 use Rattle.handles.specs.declared.attempts.Aborted.{Aborted}
@@ -69,15 +71,26 @@ abbrev pub left_by_pushes : {W : Type 0} → ℕ → Bench W → Caller → Benc
 left_by_pushes zero b who = b
 left_by_pushes (suc n) b who = left_by_pushes n (push_of b who).left who
 
--- pushing until no slot is left takes a push for each slot of the write log that is not written back yet; but if the
--- first is refused there is no other
-abbrev pub pushes_needed : Option Refusal → Head → ℕ
-pushes_needed None h = h.write_count - h.written
-pushes_needed (Some e) h = 0
+-- the slots that a push leaves
+abbrev pub slots_left : Result ℕ Refusal → ℕ
+slots_left (Ok n) = n
+slots_left (Err e) = 0
 
-abbrev pub after_pushes : WritingBack → Option Refusal → ℕ → Result ℕ (Refused (Option WritingBack))
-after_pushes h None n = Ok n
-after_pushes h (Some e) n = Err (not_pushed h e)
+-- pushing until no slot is left: a push, and one for each slot that it leaves
+abbrev pub pushes_of : {W : Type 0} → Bench W → Caller → Bench W
+pushes_of b who = left_by_pushes (slots_left (push_of b who).answer) (push_of b who).left who
+
+-- a granted one tells how many pushes it took
+abbrev pub after_pushes : WritingBack → Result ℕ Refusal → Result ℕ (Refused (Option WritingBack))
+after_pushes h (Ok n) = Ok (1 + n)
+after_pushes h (Err e) = Err (not_pushed h e)
+
+-- what is left once the head k has no slot left to push: what was still to be written back of its write log is in the cells,
+-- in order, the head is idle, and the sequence lock is free
+pub record WrittenBack {W : Type 0} (before after : Bench W) (k : ℕ) : Type 0 where
+  pub cells : after.cells ≡ put_in (drop (head_at before k).written (write_log before k)) before.cells
+  pub idle : (head_at after k).state ≡ Idle
+  pub free : after.table.sequence ≡ before.table.sequence + 1
 
 -- the exchange of a running handle for an aborted one is no call: it asks for no lists, and changes nothing. It is refused
 -- with 3 where there is no such head, then with 12, and then with 5 where the head has not aborted

@@ -34,6 +34,7 @@ pub struct Begun {
 }
 
 // A granted close, with the attempts of the transaction: done, or there is a handle for what is to be pushed.
+#[derive(Drop)]
 pub enum Closed {
     Complete(u32),
     WritingBack(WritingBack, u32),
@@ -117,6 +118,23 @@ impl Running {
         )
     }
 
+    // What a close by this handle gives.
+    fn after_close(self, answer: Result<Closing, Refusal>) -> Result<Closed, Refused<Running>>
+        ensures { result ≡ after_close self answer }
+    {
+        let Running { head, transaction } = self;
+        match answer {
+            Ok(Closing::Complete(attempts)) => Ok(Closed::Complete(attempts)),
+            Ok(Closing::WritingBack(attempts)) => {
+                Ok(Closed::WritingBack(WritingBack { head, transaction }, attempts))
+            }
+            Err(refusal) => Err(Refused {
+                refusal,
+                handle: Running { head, transaction },
+            }),
+        }
+    }
+
     // Commits, and is used up by it. If the writes are still to be pushed, there is a handle for that.
     pub fn close<B: Board, P: Policy, W: Word>(
         self,
@@ -131,22 +149,12 @@ impl Running {
         ensures left { let kit = kit_of W.Word B.Board P.Policy rig.old.board rig.old.policy in
             let before = bench rig.old.table cells.old reads.now writes.now in
             bench rig.new.table cells.new reads.now writes.now ≡ (close_of kit before (by_handle self.head self.transaction)).left }
+        ensures lengths { lengths_match (bench rig.new.table cells.new reads.now writes.now)
+            ≡ lengths_match (bench rig.old.table cells.old reads.now writes.now) }
         ensures kept { (rig.new.board ≡ rig.old.board) × (rig.new.policy ≡ rig.old.policy) }
     {
-        match rig.close(by_handle(self.head, self.transaction), cells, reads, writes) {
-            Ok(Closing::Complete(attempts)) => Ok(Closed::Complete(attempts)),
-            Ok(Closing::WritingBack(attempts)) => {
-                let handle = WritingBack {
-                    head: self.head,
-                    transaction: self.transaction,
-                };
-                Ok(Closed::WritingBack(handle, attempts))
-            }
-            Err(refusal) => Err(Refused {
-                refusal,
-                handle: self,
-            }),
-        }
+        let answer = rig.close(by_handle(self.head, self.transaction), cells, reads, writes);
+        self.after_close(answer)
     }
 
     // Interrupts an attempt in hardware, which aborts it.
@@ -179,13 +187,12 @@ impl Running {
             bench rig.new.table cells.now reads.now writes.now ≡ (drop_of before (by_handle self.head self.transaction)).left }
         ensures kept { (rig.new.board ≡ rig.old.board) × (rig.new.policy ≡ rig.old.policy) }
     {
-        match rig.drop(by_handle(self.head, self.transaction), cells, reads, writes) {
-            Ok(()) => Ok(()),
-            Err(refusal) => Err(Refused {
+        let who = by_handle(self.head, self.transaction);
+        rig.drop(who, cells, reads, writes)
+            .map_err(|refusal| Refused {
                 refusal,
                 handle: self,
-            }),
-        }
+            })
     }
 
     // The handle of the same transaction as one that has aborted, if its head has.
@@ -259,12 +266,11 @@ impl Aborted {
             bench rig.new.table cells.now reads.now writes.now ≡ (drop_of before (by_handle self.head self.transaction)).left }
         ensures kept { (rig.new.board ≡ rig.old.board) × (rig.new.policy ≡ rig.old.policy) }
     {
-        match rig.drop(by_handle(self.head, self.transaction), cells, reads, writes) {
-            Ok(()) => Ok(()),
-            Err(refusal) => Err(Refused {
+        let who = by_handle(self.head, self.transaction);
+        rig.drop(who, cells, reads, writes)
+            .map_err(|refusal| Refused {
                 refusal,
                 handle: self,
-            }),
-        }
+            })
     }
 }

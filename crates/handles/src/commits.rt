@@ -1,9 +1,9 @@
 // The handle of a commit that writes back, and its calls.
-ghost use Rattle.std.specs.Prelude.{◌≡◌, ◌+◌};
+ghost use Rattle.std.specs.Prelude.{IfErr, IfOk, None, true, ◌≡◌, ◌+◌};
 ghost use Rattle.rules.specs.Bench.{bench};
-ghost use Rattle.rules.specs.Refusals.{by_handle};
+ghost use Rattle.rules.specs.Refusals.{by_handle, lengths_match};
 ghost use Rattle.rules.specs.Calls.{push_of};
-ghost use Rattle.handles.specs.Handles.{after_push, not_pushed};
+ghost use Rattle.handles.specs.Handles.{after_push, after_pushes, pushes_of, not_pushed, WrittenBack};
 
 use crate::refusals::{Refused, by_handle};
 use parts::{Board, Policy, Word};
@@ -30,6 +30,7 @@ impl Drop for WritingBack {
 }
 
 // A granted push: no slot is left, or so many are.
+#[derive(Drop)]
 pub enum Pushed {
     Done,
     Left(WritingBack, u8),
@@ -49,6 +50,7 @@ impl WritingBack {
     }
 
     // Writes back the next slot of the write log. The push that leaves no slot uses the handle up.
+    #[tactic(auto, using(crate::proofs::Lengths::lengths_after_push, crate::proofs::Lengths::used_up_by_push))]
     pub fn push<B: Board, P: Policy, W: Word>(
         self,
         rig: &mut Rig<B, P>,
@@ -60,6 +62,10 @@ impl WritingBack {
             result ≡ after_push self (push_of before (by_handle self.head self.transaction)).answer }
         ensures left { let before = bench rig.old.table cells.old reads.now writes.now in
             bench rig.new.table cells.new reads.now writes.now ≡ (push_of before (by_handle self.head self.transaction)).left }
+        ensures lengths { lengths_match (bench rig.new.table cells.new reads.now writes.now)
+            ≡ lengths_match (bench rig.old.table cells.old reads.now writes.now) }
+        ensures used_up { lengths_match (bench rig.old.table cells.old reads.now writes.now) ≡ true
+            → IfErr result (λ r. r.handle ≡ None) }
         ensures kept { (rig.new.board ≡ rig.old.board) × (rig.new.policy ≡ rig.old.policy) }
     {
         match rig.push(by_handle(self.head, self.transaction), cells, reads, writes) {
@@ -73,5 +79,30 @@ impl WritingBack {
             Ok(left) => Ok(Pushed::Left(self, left)),
             Err(refusal) => Err(self.not_pushed(refusal)),
         }
+    }
+
+    // Pushes until no slot is left, and gives the number of pushes. If the first is not refused, none is.
+    pub fn push_all<B: Board, P: Policy, W: Word>(
+        self,
+        rig: &mut Rig<B, P>,
+        cells: &mut [W],
+        reads: &[Slot<W>],
+        writes: &[Slot<W>],
+    ) -> Result<u8, Refused<Option<WritingBack>>>
+        ensures answer { let before = bench rig.old.table cells.old reads.now writes.now in
+            result ≡ after_pushes self (push_of before (by_handle self.head self.transaction)).answer }
+        ensures left { let before = bench rig.old.table cells.old reads.now writes.now in
+            bench rig.new.table cells.new reads.now writes.now ≡ pushes_of before (by_handle self.head self.transaction) }
+        ensures written_back { let before = bench rig.old.table cells.old reads.now writes.now in
+            IfOk result (λ _. WrittenBack before (bench rig.new.table cells.new reads.now writes.now) self.head) }
+        ensures kept { (rig.new.board ≡ rig.old.board) × (rig.new.policy ≡ rig.old.policy) }
+    {
+        let mut handle = self;
+        let mut pushed = 1;
+        while let Pushed::Left(next, _) = handle.push(rig, cells, reads, writes)? {
+            handle = next;
+            pushed += 1;
+        }
+        Ok(pushed)
     }
 }

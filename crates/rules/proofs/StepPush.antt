@@ -34,7 +34,7 @@ pub even-next : (n : ℕ) → is_odd n ≡ true → is_odd (n + 1) ≡ false
 even-next n e = let h = eqb-true (n % 2) 1 e in ne_eqb ((n + 1) % 2) 1 (omega arith)
 
 -- one slot pushed and the rest put in is the whole put in
-push-settles : {W : Type 0} (p : ℕ) (ws : List (Slot W)) (xs : List W) → put_in (drop (p + 1) ws) (put_in (take 1 (drop p ws)) xs) ≡ put_in (drop p ws) xs
+pub push-settles : {W : Type 0} (p : ℕ) (ws : List (Slot W)) (xs : List W) → put_in (drop (p + 1) ws) (put_in (take 1 (drop p ws)) xs) ≡ put_in (drop p ws) xs
 push-settles p ws xs =
     ap (λ r. put_in r (put_in (take 1 (drop p ws)) xs)) (sym (drop-drop 1 p ws)) ∙ sym (put-in-append (take 1 (drop p ws)) (drop 1 (drop p ws)) xs)
     ∙ ap (λ r. put_in r xs) (take-append-drop 1 (drop p ws))
