@@ -18,7 +18,7 @@ use Rattle.rules.proofs.LawsOfCalls.{right_lengths_stay}
 use Rattle.handles.specs.declared.commits.WritingBack.{WritingBack}
 use Rattle.handles.specs.declared.commits.Pushed.{Pushed}
 use Rattle.handles.specs.declared.refusals.Refused.{Refused}
-use Rattle.handles.specs.Handles.{uses_up, not_pushed, after_push, after_pushes}
+use Rattle.handles.specs.Handles.{uses_up, after_push, after_pushes}
 
 module _ {W : Type 0} (kit : Kit W) (who : Caller) (t u : Table) (cells left : List W) (reads writes : List (Slot W)) (bounds : InBounds t) where
   pub lengths_after_close : (r : Result Closing Refusal) → outcome r (bench u left reads writes) ≡ close_of kit (bench t cells reads writes) who

@@ -1,5 +1,5 @@
 -- Pushing until no slot is left.
-use Rattle.std.proofs.Common.{◌≡◌, ℕ, zero, suc, ◌+◌, ◌-◌, ◌<◌, ◌≤◌, Bool, true, false, cond, not, ◌&&◌, eqb, leb, List, [], ◌∷◌, length, take, drop, set, get_or, Some, None, Ok, Err, Option, Result, sym, refl, ap, ◌∙◌, subst, arith}
+use Rattle.std.proofs.Common.{◌≡◌, ℕ, zero, suc, ◌+◌, ◌-◌, ◌<◌, ◌≤◌, Bool, false, cond, not, eqb, leb, List, [], ◌∷◌, length, take, drop, Some, None, Ok, Err, Option, Result, sym, refl, ap, ◌∙◌, subst, arith}
 use Rattle.std.proofs.lemmas.List.{get_or-set_same, drop_all}
 use Rattle.std.proofs.lemmas.Bool.{eqb-true, eqb-false, ne_eqb}
 use Rattle.parts.specs.declared.calls.Call.TheVariants.{Push}
@@ -13,7 +13,7 @@ use Rattle.rules.specs.Kit.{Kit}
 use Rattle.rules.specs.Logs.{log_of, put_in}
 use Rattle.rules.specs.Heads.{new_head, is_writing_back}
 use Rattle.rules.specs.Bench.{Bench, head_at, write_log}
-use Rattle.rules.specs.Refusals.{by_handle, lengths_match, is_stale, when, first_found, refusal}
+use Rattle.rules.specs.Refusals.{by_handle, is_stale, when, first_found, refusal}
 use Rattle.rules.specs.Calls.{Outcome, unless, is_last, admitted_push, push_of}
 use Rattle.rules.specs.Bounds.{InBounds}
 use Rattle.rules.proofs.Basics.{by-option, by-test}

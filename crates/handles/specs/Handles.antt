@@ -1,5 +1,5 @@
 -- Calls by handle: what each gives for the rule book's answer, and which handle comes back.
-use Rattle.std.specs.Prelude.{◌≡◌, ◌+◌, drop, zero, suc, ℕ, zero, suc, ◌-◌, Bool, true, false, Some, None, Ok, Err, Option, Result, ◌==◌, if◌then◌else◌}
+use Rattle.std.specs.Prelude.{◌≡◌, ◌+◌, drop, zero, suc, ℕ, zero, suc, Bool, true, false, Some, None, Ok, Err, Option, Result, ◌==◌, if◌then◌else◌}
 use Rattle.parts.specs.declared.types.Mode.{Mode}
 use Rattle.rules.specs.declared.types.Caller.{Caller}
 use Rattle.rules.specs.declared.types.Closing.{Closing}

@@ -10,7 +10,7 @@ use crate::commits::WritingBack;
 use crate::refusals::{Refused, by_handle};
 use parts::{Board, Mode, Policy, Word};
 use rig::Rig;
-use rules::{Caller, Closing, Refusal, Slot, State};
+use rules::{Caller, Closing, Head, Refusal, Slot, State};
 
 // A transaction with an attempt under way, as far as its holder knows: another head may have aborted it.
 #[derive(Drop)]
@@ -204,16 +204,19 @@ impl Running {
     {
         let refusal = match rig.head(self.head) {
             None => Refusal::NoHead,
-            Some(record) if self.transaction != record.transaction => Refusal::StaleHandle,
-            Some(record) => match record.state {
-                State::Aborted(_) => {
-                    return Ok(Aborted {
-                        head: self.head,
-                        transaction: self.transaction,
-                    });
-                }
-                _ => Refusal::NotTaken,
-            },
+            Some(record) if record.transaction != self.transaction => Refusal::StaleHandle,
+            Some(
+                Head {
+                    state: State::Aborted(_),
+                    ..
+                },
+            ) => {
+                return Ok(Aborted {
+                    head: self.head,
+                    transaction: self.transaction,
+                });
+            }
+            Some(_) => Refusal::NotTaken,
         };
         Err(Refused {
             refusal,

@@ -95,6 +95,10 @@ impl WritingBack {
             bench rig.new.table cells.new reads.now writes.now ≡ pushes_of before (by_handle self.head self.transaction) }
         ensures written_back { let before = bench rig.old.table cells.old reads.now writes.now in
             IfOk result (λ _. WrittenBack before (bench rig.new.table cells.new reads.now writes.now) self.head) }
+        ensures lengths { lengths_match (bench rig.new.table cells.new reads.now writes.now)
+            ≡ lengths_match (bench rig.old.table cells.old reads.now writes.now) }
+        ensures used_up { lengths_match (bench rig.old.table cells.old reads.now writes.now) ≡ true
+            → IfErr result (λ r. r.handle ≡ None) }
         ensures kept { (rig.new.board ≡ rig.old.board) × (rig.new.policy ≡ rig.old.policy) }
     {
         let mut handle = self;
