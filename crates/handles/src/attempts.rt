@@ -1,7 +1,7 @@
 // The handles of a transaction that has not closed, and its calls.
-ghost use Rattle.std.specs.Prelude.{◌≡◌, ◌+◌};
+ghost use Rattle.std.specs.Prelude.{◌≡◌, ◌+◌, ◌≤◌, IfOk};
 ghost use Rattle.rules.specs.Kit.{kit_of};
-ghost use Rattle.rules.specs.Bench.{bench, head_of};
+ghost use Rattle.rules.specs.Bench.{bench, head_at, head_of};
 ghost use Rattle.rules.specs.Refusals.{by_handle, by_number, lengths_match};
 ghost use Rattle.rules.specs.Calls.{outcome, open_of, jolt_of, drop_of, read_of, write_of, close_of, again_of};
 ghost use Rattle.handles.specs.Handles.{after_again, after_close, after_drop, after_exchange, after_open, exchange_of};
@@ -53,6 +53,8 @@ impl Running {
             result ≡ after_open head (rig.old.table.opened + 1) (open_of before (by_number head)).answer }
         ensures left { let before = bench rig.old.table cells.now reads.now writes.now in
             bench rig.new.table cells.now reads.now writes.now ≡ (open_of before (by_number head)).left }
+        ensures numbered { let after = bench rig.new.table cells.now reads.now writes.now in
+            IfOk result (λ begun. ((head_at after head).transaction ≡ begun.handle.transaction) × (1 ≤ begun.handle.transaction)) }
         ensures kept { (rig.new.board ≡ rig.old.board) × (rig.new.policy ≡ rig.old.policy) }
     {
         let who = Caller {
