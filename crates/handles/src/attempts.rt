@@ -55,6 +55,8 @@ impl Running {
             bench rig.new.table cells.now reads.now writes.now ≡ (open_of before (by_number head)).left }
         ensures numbered { let after = bench rig.new.table cells.now reads.now writes.now in
             IfOk result (λ begun. ((head_at after head).transaction ≡ begun.handle.transaction) × (1 ≤ begun.handle.transaction)) }
+        ensures lengths { lengths_match (bench rig.new.table cells.now reads.now writes.now)
+            ≡ lengths_match (bench rig.old.table cells.now reads.now writes.now) }
         ensures kept { (rig.new.board ≡ rig.old.board) × (rig.new.policy ≡ rig.old.policy) }
     {
         let who = Caller {
@@ -83,6 +85,8 @@ impl Running {
             let before = bench rig.old.table cells.now reads.old writes.now in
             outcome result (bench rig.new.table cells.now reads.new writes.now)
             ≡ read_of kit before (by_handle self.now.head self.now.transaction) cell }
+        ensures lengths { lengths_match (bench rig.new.table cells.now reads.new writes.now)
+            ≡ lengths_match (bench rig.old.table cells.now reads.old writes.now) }
         ensures kept { (rig.new.board ≡ rig.old.board) × (rig.new.policy ≡ rig.old.policy) }
     {
         rig.read(
@@ -108,6 +112,8 @@ impl Running {
             let before = bench rig.old.table cells.now reads.now writes.old in
             outcome result (bench rig.new.table cells.now reads.now writes.new)
             ≡ write_of kit before (by_handle self.now.head self.now.transaction) cell word }
+        ensures lengths { lengths_match (bench rig.new.table cells.now reads.now writes.new)
+            ≡ lengths_match (bench rig.old.table cells.now reads.now writes.old) }
         ensures kept { (rig.new.board ≡ rig.old.board) × (rig.new.policy ≡ rig.old.policy) }
     {
         rig.write(
@@ -170,6 +176,8 @@ impl Running {
         ensures outcome { let before = bench rig.old.table cells.now reads.now writes.now in
             outcome result (bench rig.new.table cells.now reads.now writes.now)
             ≡ jolt_of before (by_handle self.now.head self.now.transaction) }
+        ensures lengths { lengths_match (bench rig.new.table cells.now reads.now writes.now)
+            ≡ lengths_match (bench rig.old.table cells.now reads.now writes.now) }
         ensures kept { (rig.new.board ≡ rig.old.board) × (rig.new.policy ≡ rig.old.policy) }
     {
         rig.jolt(by_handle(self.head, self.transaction), cells, reads, writes)
@@ -187,6 +195,8 @@ impl Running {
             result ≡ after_drop self (drop_of before (by_handle self.head self.transaction)).answer }
         ensures left { let before = bench rig.old.table cells.now reads.now writes.now in
             bench rig.new.table cells.now reads.now writes.now ≡ (drop_of before (by_handle self.head self.transaction)).left }
+        ensures lengths { lengths_match (bench rig.new.table cells.now reads.now writes.now)
+            ≡ lengths_match (bench rig.old.table cells.now reads.now writes.now) }
         ensures kept { (rig.new.board ≡ rig.old.board) × (rig.new.policy ≡ rig.old.policy) }
     {
         let who = by_handle(self.head, self.transaction);
@@ -242,6 +252,8 @@ impl Aborted {
         ensures left { let kit = kit_of W.Word B.Board P.Policy rig.old.board rig.old.policy in
             let before = bench rig.old.table cells.now reads.now writes.now in
             bench rig.new.table cells.now reads.now writes.now ≡ (again_of kit before (by_handle self.head self.transaction)).left }
+        ensures lengths { lengths_match (bench rig.new.table cells.now reads.now writes.now)
+            ≡ lengths_match (bench rig.old.table cells.now reads.now writes.now) }
         ensures kept { (rig.new.board ≡ rig.old.board) × (rig.new.policy ≡ rig.old.policy) }
     {
         let Aborted { head, transaction } = self;
@@ -269,6 +281,8 @@ impl Aborted {
             result ≡ after_drop self (drop_of before (by_handle self.head self.transaction)).answer }
         ensures left { let before = bench rig.old.table cells.now reads.now writes.now in
             bench rig.new.table cells.now reads.now writes.now ≡ (drop_of before (by_handle self.head self.transaction)).left }
+        ensures lengths { lengths_match (bench rig.new.table cells.now reads.now writes.now)
+            ≡ lengths_match (bench rig.old.table cells.now reads.now writes.now) }
         ensures kept { (rig.new.board ≡ rig.old.board) × (rig.new.policy ≡ rig.old.policy) }
     {
         let who = by_handle(self.head, self.transaction);
