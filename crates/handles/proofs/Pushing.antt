@@ -150,8 +150,8 @@ module _ {W : Type 0} (who : Caller) where
     pub left : pushes_of now who ≡ pushes_of start who
     pub answer : raised p (push_of now who).answer ≡ raised 1 (push_of start who).answer
 
-  pub going-first : (b : Bench W) → Going b b 1
-  going-first b = record { left = refl; answer = refl }
+  pub going_first : (b : Bench W) → Going b b 1
+  going_first b = record { left = refl; answer = refl }
 
   module _ (kit : Kit W) (start now : Bench W) (s : InBounds now.table) (p : ℕ) (g : Going start now p) where
     pub going-on : (m : ℕ) → (push_of now who).answer ≡ Ok (suc m) → Going start (push_of now who).left (p + 1)

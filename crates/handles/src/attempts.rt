@@ -10,7 +10,7 @@ use crate::commits::WritingBack;
 use crate::refusals::{Refused, by_handle};
 use parts::{Board, Mode, Policy, Word};
 use rig::Rig;
-use rules::{Caller, Closing, Head, Refusal, Slot, State};
+use rules::{Caller, Closing, Refusal, Slot, State};
 
 // A transaction with an attempt under way, as far as its holder knows: another head may have aborted it.
 #[derive(Drop)]
@@ -89,13 +89,8 @@ impl Running {
             ≡ lengths_match (bench rig.old.table cells.now reads.old writes.now) }
         ensures kept { (rig.new.board ≡ rig.old.board) × (rig.new.policy ≡ rig.old.policy) }
     {
-        rig.read(
-            by_handle(self.head, self.transaction),
-            cell,
-            cells,
-            reads,
-            writes,
-        )
+        let who = by_handle(self.head, self.transaction);
+        rig.read(who, cell, cells, reads, writes)
     }
 
     // Writes a word to a cell, into the write log.
@@ -116,29 +111,26 @@ impl Running {
             ≡ lengths_match (bench rig.old.table cells.now reads.now writes.old) }
         ensures kept { (rig.new.board ≡ rig.old.board) × (rig.new.policy ≡ rig.old.policy) }
     {
-        rig.write(
-            by_handle(self.head, self.transaction),
-            cell,
-            word,
-            cells,
-            reads,
-            writes,
-        )
+        let who = by_handle(self.head, self.transaction);
+        rig.write(who, cell, word, cells, reads, writes)
     }
 
     // What a close by this handle gives.
     fn after_close(self, answer: Result<Closing, Refusal>) -> Result<Closed, Refused<Running>>
         ensures { result ≡ after_close self answer }
     {
-        let Running { head, transaction } = self;
         match answer {
             Ok(Closing::Complete(attempts)) => Ok(Closed::Complete(attempts)),
             Ok(Closing::WritingBack(attempts)) => {
-                Ok(Closed::WritingBack(WritingBack { head, transaction }, attempts))
+                let handle = WritingBack {
+                    head: self.head,
+                    transaction: self.transaction,
+                };
+                Ok(Closed::WritingBack(handle, attempts))
             }
             Err(refusal) => Err(Refused {
                 refusal,
-                handle: Running { head, transaction },
+                handle: self,
             }),
         }
     }
@@ -161,7 +153,8 @@ impl Running {
             ≡ lengths_match (bench rig.old.table cells.old reads.now writes.now) }
         ensures kept { (rig.new.board ≡ rig.old.board) × (rig.new.policy ≡ rig.old.policy) }
     {
-        let answer = rig.close(by_handle(self.head, self.transaction), cells, reads, writes);
+        let who = by_handle(self.head, self.transaction);
+        let answer = rig.close(who, cells, reads, writes);
         self.after_close(answer)
     }
 
@@ -180,7 +173,8 @@ impl Running {
             ≡ lengths_match (bench rig.old.table cells.now reads.now writes.now) }
         ensures kept { (rig.new.board ≡ rig.old.board) × (rig.new.policy ≡ rig.old.policy) }
     {
-        rig.jolt(by_handle(self.head, self.transaction), cells, reads, writes)
+        let who = by_handle(self.head, self.transaction);
+        rig.jolt(who, cells, reads, writes)
     }
 
     // Gives the transaction up, and is used up by it.
@@ -207,30 +201,29 @@ impl Running {
             })
     }
 
-    // The handle of the same transaction as one that has aborted, if its head has.
+    // The handle for an aborted attempt of the transaction, or why there is none.
+    fn aborted<B: Board, P: Policy>(&self, rig: &Rig<B, P>) -> Result<Aborted, Refusal>
+        ensures { result ≡ exchange_of self.now (head_of rig.now.table self.now.head) }
+    {
+        match rig.head(self.head) {
+            None => Err(Refusal::NoHead),
+            Some(record) if record.transaction != self.transaction => Err(Refusal::StaleHandle),
+            Some(record) if !matches!(record.state, State::Aborted(_)) => Err(Refusal::NotTaken),
+            Some(_) => Ok(Aborted {
+                head: self.head,
+                transaction: self.transaction,
+            }),
+        }
+    }
+
+    // Exchanges the handle for an aborted one, if its head has aborted.
     pub fn into_aborted<B: Board, P: Policy>(
         self,
         rig: &Rig<B, P>,
     ) -> Result<Aborted, Refused<Running>>
         ensures { result ≡ after_exchange self (exchange_of self (head_of rig.now.table self.head)) }
     {
-        let refusal = match rig.head(self.head) {
-            None => Refusal::NoHead,
-            Some(record) if record.transaction != self.transaction => Refusal::StaleHandle,
-            Some(
-                Head {
-                    state: State::Aborted(_),
-                    ..
-                },
-            ) => {
-                return Ok(Aborted {
-                    head: self.head,
-                    transaction: self.transaction,
-                });
-            }
-            Some(_) => Refusal::NotTaken,
-        };
-        Err(Refused {
+        self.aborted(rig).map_err(|refusal| Refused {
             refusal,
             handle: self,
         })
@@ -285,11 +278,11 @@ impl Aborted {
             ≡ lengths_match (bench rig.old.table cells.now reads.now writes.now) }
         ensures kept { (rig.new.board ≡ rig.old.board) × (rig.new.policy ≡ rig.old.policy) }
     {
-        let who = by_handle(self.head, self.transaction);
-        rig.drop(who, cells, reads, writes)
+        let Aborted { head, transaction } = self;
+        rig.drop(by_handle(head, transaction), cells, reads, writes)
             .map_err(|refusal| Refused {
                 refusal,
-                handle: self,
+                handle: Aborted { head, transaction },
             })
     }
 }

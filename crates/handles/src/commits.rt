@@ -68,7 +68,8 @@ impl WritingBack {
             → IfErr result (λ r. r.handle ≡ None) }
         ensures kept { (rig.new.board ≡ rig.old.board) × (rig.new.policy ≡ rig.old.policy) }
     {
-        match rig.push(by_handle(self.head, self.transaction), cells, reads, writes) {
+        let who = by_handle(self.head, self.transaction);
+        match rig.push(who, cells, reads, writes) {
             Ok(0) => {
                 let WritingBack {
                     head: _,
@@ -82,6 +83,7 @@ impl WritingBack {
     }
 
     // Pushes until no slot is left, and gives the number of pushes. If the first is not refused, none is.
+    #[tactic(auto, using(crate::proofs::Pushing::going_first))]
     pub fn push_all<B: Board, P: Policy, W: Word>(
         self,
         rig: &mut Rig<B, P>,

@@ -7,4 +7,4 @@ use Rattle.handles.proofs.attempts.Running.close.Goals as goal
 
 pub returns-clause-lengths : goal.returns-clause-lengths
 returns-clause-lengths g c =
-    lengths_kept (kit_of g.W.Word g.B.Board g.P.Policy c.args.rig.now.board c.args.rig.now.policy) c.by_handle.result _ Close granted.Closed c.args.rig.now.in_bounds refl c.close-answer.ensures.outcome
+    lengths_kept (kit_of g.W.Word g.B.Board g.P.Policy c.args.rig.now.board c.args.rig.now.policy) _ _ Close granted.Closed c.args.rig.now.in_bounds refl c.close-answer.ensures.outcome

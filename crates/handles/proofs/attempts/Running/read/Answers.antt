@@ -7,4 +7,4 @@ use Rattle.handles.proofs.attempts.Running.read.Goals as goal
 
 pub returns-clause-lengths : goal.returns-clause-lengths
 returns-clause-lengths g c =
-    lengths_kept (kit_of g.W.Word g.B.Board g.P.Policy c.args.rig.now.board c.args.rig.now.policy) c.by_handle.result _ (Read c.args.cell) granted.Word c.args.rig.now.in_bounds refl c.read.ensures.outcome
+    lengths_kept (kit_of g.W.Word g.B.Board g.P.Policy c.args.rig.now.board c.args.rig.now.policy) _ _ (Read _) granted.Word c.args.rig.now.in_bounds refl c.read.ensures.outcome

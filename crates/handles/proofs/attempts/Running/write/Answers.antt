@@ -7,4 +7,4 @@ use Rattle.handles.proofs.attempts.Running.write.Goals as goal
 
 pub returns-clause-lengths : goal.returns-clause-lengths
 returns-clause-lengths g c =
-    lengths_kept (kit_of g.W.Word g.B.Board g.P.Policy c.args.rig.now.board c.args.rig.now.policy) c.by_handle.result _ (Write c.args.cell c.args.word) (λ _. granted.Done) c.args.rig.now.in_bounds refl c.write.ensures.outcome
+    lengths_kept (kit_of g.W.Word g.B.Board g.P.Policy c.args.rig.now.board c.args.rig.now.policy) _ _ (Write _ _) (λ _. granted.Done) c.args.rig.now.in_bounds refl c.write.ensures.outcome

@@ -1,10 +1,7 @@
-use Rattle.std.proofs.Common.{rules, ◌≡◌, refl, ◌∙◌, arith, subst, IfErr, None}
+use Rattle.std.proofs.Common.{rules, ◌≡◌, ◌∙◌, arith, subst, IfErr, None}
 use Rattle.rules.specs.Kit.{kit_of}
-use Rattle.handles.proofs.Pushing.{going-first, ends-refused, ends-done, goes-on}
+use Rattle.handles.proofs.Pushing.{ends-refused, ends-done, goes-on}
 use Rattle.handles.proofs.commits.WritingBack.push_all.Goals as goal
-
-pub loop-next-init : goal.loop-next-init
-loop-next-init g c = (going-first _ _, refl, refl, refl, refl)
 
 pub returns-in_err-next-clause-answer : goal.returns-in_err-next-clause-answer
 returns-in_err-next-clause-answer g c =
