@@ -1,23 +1,25 @@
 // A rig on the bench, with the lists that it is lent.
-ghost use Rattle.std.specs.Prelude.{◌≡◌};
+ghost use Rattle.std.specs.Prelude.{◌≡◌, true};
+ghost use Rattle.rules.specs.Bench.{bench};
+ghost use Rattle.rules.specs.Refusals.{lengths_match};
 
-use handles::{Closed, Refused, Running, WritingBack};
+use handles::{Refused, WritingBack};
 use parts::{LinesBoard, Margin, Plain};
 use rig::Rig;
 use rules::{Refusal, Slot};
 
+// Two heads over two cells of amounts. The lists always have the right lengths, so no call is refused for them.
 #[derive(Drop)]
 pub(crate) struct Bench {
     pub(crate) rig: Rig<Margin<LinesBoard>, Plain>,
     pub(crate) cells: [i32; 2],
     pub(crate) reads: [Slot<i32>; 64],
     pub(crate) writes: [Slot<i32>; 64],
+    ghost lists: { lengths_match (bench rig.table cells reads writes) ≡ true },
 }
 
 impl Bench {
-    // Two heads, two cells with these amounts, and the lines board under a margin.
-    pub(crate) fn set_up(cells: [i32; 2]) -> Result<Bench, Refusal>
-    {
+    pub(crate) fn set_up(cells: [i32; 2]) -> Result<Bench, Refusal> {
         let slot = Slot { cell: 0, word: 0 };
         let rig = Rig::set_up(2, 2, Margin { below: LinesBoard }, Plain)?;
         Ok(Bench {
@@ -26,5 +28,13 @@ impl Bench {
             reads: [slot; 64],
             writes: [slot; 64],
         })
+    }
+
+    // Pushes until no slot is left. With lists of the right lengths even a refusal leaves no handle to be forgotten.
+    pub(crate) fn finish(&mut self, handle: WritingBack) -> Result<u8, Refusal> {
+        match handle.push_all(&mut self.rig, &mut self.cells, &self.reads, &self.writes) {
+            Ok(pushes) => Ok(pushes),
+            Err(Refused { refusal, handle: _ }) => Err(refusal),
+        }
     }
 }
