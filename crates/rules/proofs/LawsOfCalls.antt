@@ -279,7 +279,7 @@ module _ {W : Type 0} (kit : Kit W) (b : Bench W) (k : ℕ) where
       → (j : ℕ) → (get_or (set ys k h) j new_head).transaction ≡ (head_at b j).transaction
   number-kept ys p h e j = number-set b.table.heads ys k j h p e
 
-  numbers-kept : (call : Call ℕ W) → (is_ok (admitted_of kit b k call).0 && is_open call) ≡ false → SameNumbers b (admitted_of kit b k call).1
+  pub numbers-kept : (call : Call ℕ W) → (is_ok (admitted_of kit b k call).0 && is_open call) ≡ false → SameNumbers b (admitted_of kit b k call).1
   numbers-kept Open ne = wrong (sym ne)
   numbers-kept (Read c) ne =
       by_read kit b k c (λ (o : Outcome W W). SameNumbers b o.left) (λ w. (λ j. refl, refl)) (λ j. refl, refl)

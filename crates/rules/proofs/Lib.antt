@@ -10,6 +10,7 @@ pub mod HeadBounds
 pub mod TableBounds
 pub mod KeptBounds
 pub mod LawsOfCalls
+pub mod EndedHandles
 pub mod Seats
 pub mod LogLaws
 pub mod HistoryLaws

@@ -1,12 +1,16 @@
--- The three laws of a run. They speak of calls, answers and cells alone, so every rig that answers alike and leaves the
--- same cells has them.
-use Rattle.std.specs.Prelude.{◌≡◌, ℕ, ◌+◌, ◌≤◌, false, List, length, take, Some, Ok, All}
+-- The laws of a run: three of what its transactions see and do, and one of handles. They speak of calls, answers and cells
+-- alone, so every rig that answers alike and leaves the same cells has them.
+use Rattle.std.specs.Prelude.{◌≡◌, ℕ, ◌+◌, ◌<◌, ◌≤◌, Bool, true, false, List, length, take, Some, Ok, All}
 use Rattle.std.specs.List.{slice_get}
+use Rattle.parts.specs.declared.calls.Call.{Call}
+use Rattle.parts.specs.declared.calls.Call.TheVariants.{Open, Close, Push, Drop}
+use Rattle.rules.specs.declared.types.Granted.{Granted}
 use Rattle.rules.specs.declared.types.MadeCall.{MadeCall}
 use Rattle.rules.specs.declared.types.Slot.{Slot}
 use Rattle.rules.specs.Kit.{Kit}
 use Rattle.rules.specs.Logs.{is_empty}
 use Rattle.rules.specs.Bench.{Bench}
+use Rattle.rules.specs.Refusals.{by_handle}
 use Rattle.rules.specs.Calls.{set_up}
 use Rattle.rules.specs.Answers.{Answer}
 use Rattle.rules.specs.History.{History, GrantedClose, OwnRead, Attempt, EndedTransaction, nothing_yet, history_of, cells_after, closes_of_others}
@@ -59,3 +63,33 @@ abbrev pub LawsOfRuns : {W : Type 0} → Kit W → Type 0
 LawsOfRuns {W} kit =
     (heads cells : ℕ) (b : Bench W) (calls : List (MadeCall W)) → set_up heads cells ≡ Ok b.table
     → LawsHold kit.patience b.cells (left_by kit b calls).cells calls (answers_of kit b calls)
+
+-- the calls that end a transaction, where they are granted
+abbrev pub ends : {W : Type 0} → Call ℕ W → Bool
+ends Close = true
+ends Drop = true
+ends call = false
+
+-- and those that may still be granted by its handle then: the pushes of its commit, and an open, as of any idle head
+abbrev pub may_follow : {W : Type 0} → Call ℕ W → Bool
+may_follow Push = true
+may_follow Open = true
+may_follow call = false
+
+-- the i-th call of a run was this one, and was granted
+pub record GrantedAt {W : Type 0} (calls : List (MadeCall W)) (answers : List (Answer W)) (i : ℕ) (call : MadeCall W) : Type 0 where
+  pub made : slice_get calls i ≡ Some call
+  pub given : Granted W
+  pub granted : slice_get answers i ≡ Some (Ok given)
+
+-- once the call by a handle that ends its transaction has been granted, no later call by that handle is, but those; so a
+-- program that cannot make them loses nothing
+abbrev pub HandlesEnd : {W : Type 0} → List (MadeCall W) → List (Answer W) → Type 0
+HandlesEnd {W} calls answers =
+    (i j k n : ℕ) (first later : MadeCall W) → i < j → GrantedAt calls answers i first → GrantedAt calls answers j later
+    → first.caller ≡ by_handle k n → later.caller ≡ by_handle k n → ends first.call ≡ true → may_follow later.call ≡ true
+
+-- of every list of calls on every rig that is set up
+abbrev pub HandlesEndInRuns : {W : Type 0} → Kit W → Type 0
+HandlesEndInRuns {W} kit =
+    (heads cells : ℕ) (b : Bench W) (calls : List (MadeCall W)) → set_up heads cells ≡ Ok b.table → HandlesEnd calls (answers_of kit b calls)

@@ -5,7 +5,7 @@ ghost use Rattle.rules.specs.Bounds.{BoundsAtSetUp, BoundsKept};
 ghost use Rattle.rules.specs.Examples.{RepricingSheet, SoftwareSheet, ValidationSheet, LinesSheet, StoresSheet, LockSheet, RefusalsSheet};
 ghost use Rattle.rules.specs.CallLaws.{CallLaws};
 ghost use Rattle.rules.specs.Kit.{kit_of};
-ghost use Rattle.rules.specs.RunLaws.{LawsOfRuns};
+ghost use Rattle.rules.specs.RunLaws.{LawsOfRuns, HandlesEndInRuns};
 
 use parts::{Board, Policy, Word};
 
@@ -31,7 +31,8 @@ pub fn call_laws_stand<W: Word, B: Board, P: Policy>(board: &B, policy: &P)
     ensures { CallLaws (kit_of W.Word B.Board P.Policy board.now policy.now) }
 {}
 
-// The three laws, of every list of calls since set-up.
+// The laws of every list of calls since set-up: the three of what transactions see and do, and that of handles.
 pub fn laws_stand<W: Word, B: Board, P: Policy>(board: &B, policy: &P)
-    ensures { LawsOfRuns (kit_of W.Word B.Board P.Policy board.now policy.now) }
+    ensures laws { LawsOfRuns (kit_of W.Word B.Board P.Policy board.now policy.now) }
+    ensures handles { HandlesEndInRuns (kit_of W.Word B.Board P.Policy board.now policy.now) }
 {}

@@ -8,8 +8,9 @@ use Rattle.rules.specs.Bench.{Bench, bench}
 use Rattle.rules.specs.Calls.{new_table, set_up}
 use Rattle.rules.specs.Answers.{Answer}
 use Rattle.rules.specs.Runs.{answers_of, left_by}
-use Rattle.rules.specs.RunLaws.{LawsHold}
+use Rattle.rules.specs.RunLaws.{LawsHold, HandlesEnd}
 use Rattle.rules.proofs.Lawful.{Lawful}
+use Rattle.rules.proofs.EndedHandles.{handles-end-in-runs}
 use Rattle.rules.proofs.WholeRuns.{laws-of-runs, set-up-new}
 use Rattle.runs.specs.Ran.{Ran}
 
@@ -30,4 +31,5 @@ module _ {W : Type 0} (kit : Kit W) (law : Lawful kit) (heads count : ℕ) (cell
         laws =
             subst (λ xs. LawsHold kit.patience cells xs calls given) (sym (ap (λ (b : Bench W). b.cells) leaves))
             (subst (LawsHold kit.patience cells (left_by kit start calls).cells calls) (sym gives) (laws-of-runs kit law heads count start calls (up ∙ ap Ok new)));
+        handles = subst (HandlesEnd calls) (sym gives) (handles-end-in-runs kit heads count start calls (up ∙ ap Ok new));
       }
