@@ -1,2 +1,2 @@
 pub mod Pushing
-pub mod Lengths
+pub mod UsedUp

@@ -50,7 +50,7 @@ impl WritingBack {
     }
 
     // Writes back the next slot of the write log. The push that leaves no slot uses the handle up.
-    #[tactic(auto, using(crate::proofs::Lengths::used_up_by_push))]
+    #[tactic(auto, using(crate::proofs::UsedUp::used_up_by_push))]
     pub fn push<B: Board, P: Policy, W: Word>(
         self,
         rig: &mut Rig<B, P>,

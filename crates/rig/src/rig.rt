@@ -96,6 +96,8 @@ impl<B: Board, P: Policy> Rig<B, P> {
     ) -> Result<Mode, Refusal>
         ensures outcome { outcome result (bench self.new.table cells.now reads.now writes.now)
             ≡ open_of (bench self.old.table cells.now reads.now writes.now) who }
+        ensures lengths { lengths_match (bench self.new.table cells.now reads.now writes.now)
+            ≡ lengths_match (bench self.old.table cells.now reads.now writes.now) }
         ensures kept { (self.new.board ≡ self.old.board) × (self.new.policy ≡ self.old.policy) }
     {
         open(&mut self.table, who, cells, reads, writes)
@@ -113,6 +115,8 @@ impl<B: Board, P: Policy> Rig<B, P> {
         ensures outcome { let kit = kit_of W.Word B.Board P.Policy self.old.board self.old.policy in
             let before = bench self.old.table cells.now reads.old writes.now in
             outcome result (bench self.new.table cells.now reads.new writes.now) ≡ read_of kit before who cell }
+        ensures lengths { lengths_match (bench self.new.table cells.now reads.new writes.now)
+            ≡ lengths_match (bench self.old.table cells.now reads.old writes.now) }
         ensures kept { (self.new.board ≡ self.old.board) × (self.new.policy ≡ self.old.policy) }
     {
         read(
@@ -139,6 +143,8 @@ impl<B: Board, P: Policy> Rig<B, P> {
         ensures outcome { let kit = kit_of W.Word B.Board P.Policy self.old.board self.old.policy in
             let before = bench self.old.table cells.now reads.now writes.old in
             outcome result (bench self.new.table cells.now reads.now writes.new) ≡ write_of kit before who cell word }
+        ensures lengths { lengths_match (bench self.new.table cells.now reads.now writes.new)
+            ≡ lengths_match (bench self.old.table cells.now reads.now writes.old) }
         ensures kept { (self.new.board ≡ self.old.board) × (self.new.policy ≡ self.old.policy) }
     {
         write(
@@ -164,6 +170,8 @@ impl<B: Board, P: Policy> Rig<B, P> {
         ensures outcome { let kit = kit_of W.Word B.Board P.Policy self.old.board self.old.policy in
             let before = bench self.old.table cells.old reads.now writes.now in
             outcome result (bench self.new.table cells.new reads.now writes.now) ≡ close_of kit before who }
+        ensures lengths { lengths_match (bench self.new.table cells.new reads.now writes.now)
+            ≡ lengths_match (bench self.old.table cells.old reads.now writes.now) }
         ensures kept { (self.new.board ≡ self.old.board) × (self.new.policy ≡ self.old.policy) }
     {
         close(&mut self.table, &self.board, who, cells, reads, writes)
@@ -179,6 +187,8 @@ impl<B: Board, P: Policy> Rig<B, P> {
     ) -> Result<u8, Refusal>
         ensures outcome { outcome result (bench self.new.table cells.new reads.now writes.now)
             ≡ push_of (bench self.old.table cells.old reads.now writes.now) who }
+        ensures lengths { lengths_match (bench self.new.table cells.new reads.now writes.now)
+            ≡ lengths_match (bench self.old.table cells.old reads.now writes.now) }
         ensures kept { (self.new.board ≡ self.old.board) × (self.new.policy ≡ self.old.policy) }
     {
         push(&mut self.table, who, cells, reads, writes)
@@ -194,6 +204,8 @@ impl<B: Board, P: Policy> Rig<B, P> {
     ) -> Result<(), Refusal>
         ensures outcome { outcome result (bench self.new.table cells.now reads.now writes.now)
             ≡ jolt_of (bench self.old.table cells.now reads.now writes.now) who }
+        ensures lengths { lengths_match (bench self.new.table cells.now reads.now writes.now)
+            ≡ lengths_match (bench self.old.table cells.now reads.now writes.now) }
         ensures kept { (self.new.board ≡ self.old.board) × (self.new.policy ≡ self.old.policy) }
     {
         jolt(&mut self.table, who, cells, reads, writes)
@@ -210,6 +222,8 @@ impl<B: Board, P: Policy> Rig<B, P> {
         ensures outcome { let kit = kit_of W.Word B.Board P.Policy self.old.board self.old.policy in
             let before = bench self.old.table cells.now reads.now writes.now in
             outcome result (bench self.new.table cells.now reads.now writes.now) ≡ again_of kit before who }
+        ensures lengths { lengths_match (bench self.new.table cells.now reads.now writes.now)
+            ≡ lengths_match (bench self.old.table cells.now reads.now writes.now) }
         ensures kept { (self.new.board ≡ self.old.board) × (self.new.policy ≡ self.old.policy) }
     {
         again(&mut self.table, &self.policy, who, cells, reads, writes)
@@ -225,6 +239,8 @@ impl<B: Board, P: Policy> Rig<B, P> {
     ) -> Result<(), Refusal>
         ensures outcome { outcome result (bench self.new.table cells.now reads.now writes.now)
             ≡ drop_of (bench self.old.table cells.now reads.now writes.now) who }
+        ensures lengths { lengths_match (bench self.new.table cells.now reads.now writes.now)
+            ≡ lengths_match (bench self.old.table cells.now reads.now writes.now) }
         ensures kept { (self.new.board ≡ self.old.board) × (self.new.policy ≡ self.old.policy) }
     {
         cancel(&mut self.table, who, cells, reads, writes)

@@ -55,3 +55,6 @@ fn main(rt: HostRuntime) {
         }
     }
 }
+
+#[cfg(test)]
+mod tests;

@@ -4,7 +4,7 @@ use Rattle.rules.specs.Bench.{bench}
 use Rattle.rules.specs.Calls.{again_of}
 use Rattle.rules.specs.Kit.{kit_of}
 use Rattle.rules.proofs.KeptBounds.{bounds-kept}
-use Rattle.rig.proofs.KeptInBounds.{left_in_bounds}
+use Rattle.rig.proofs.KeptInBounds.{left_in_bounds, left_lengths}
 use Rattle.rig.proofs.rig.Rig.again.Goals as goal
 
 pub invariant_of-self : goal.invariant_of-self
@@ -15,3 +15,9 @@ invariant_of-self g c =
 
 pub returns-clause-outcome : goal.returns-clause-outcome
 returns-clause-outcome g c = c.again.ensures (kit_of g.W.Word g.B.Board g.P.Policy c.args.self.now.board c.args.self.now.policy) refl
+
+pub returns-clause-lengths : goal.returns-clause-lengths
+returns-clause-lengths g c =
+    let b = bench c.args.self.now.table c.args.cells.now c.args.reads.now c.args.writes.now in
+    let kit = kit_of g.W.Word g.B.Board g.P.Policy c.args.self.now.board c.args.self.now.policy in
+    left_lengths kit c.args.who b Again c.again.result (c.again.ensures kit refl) refl c.args.self.now.in_bounds

@@ -1,10 +1,11 @@
+use Rattle.std.proofs.Common.{refl}
 use Rattle.parts.specs.declared.calls.Call.TheVariants.{Close}
 use Rattle.rules.specs.Bench.{bench}
 use Rattle.rules.specs.Calls.{close_of}
 use Rattle.rules.specs.Kit.{kit_of}
 use Rattle.rules.proofs.KeptBounds.{bounds-kept}
 use Rattle.rig.specs.Kits.{parts_of}
-use Rattle.rig.proofs.KeptInBounds.{left_in_bounds}
+use Rattle.rig.proofs.KeptInBounds.{left_in_bounds, left_lengths}
 use Rattle.rig.proofs.rig.Rig.close.Goals as goal
 
 pub invariant_of-self : goal.invariant_of-self
@@ -15,3 +16,9 @@ invariant_of-self g c =
 
 pub returns-clause-outcome : goal.returns-clause-outcome
 returns-clause-outcome g c = c.close.ensures (parts_of g.P.Policy c.args.self.now.policy)
+
+pub returns-clause-lengths : goal.returns-clause-lengths
+returns-clause-lengths g c =
+    let b = bench c.args.self.now.table c.args.cells.now c.args.reads.now c.args.writes.now in
+    let kit = kit_of g.W.Word g.B.Board g.P.Policy c.args.self.now.board c.args.self.now.policy in
+    left_lengths kit c.args.who b Close c.close.result (c.close.ensures (parts_of g.P.Policy c.args.self.now.policy)) refl c.args.self.now.in_bounds

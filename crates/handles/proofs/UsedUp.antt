@@ -1,31 +1,18 @@
--- Lists of right lengths stay so, and with them a refused push uses its handle up.
+-- With lists of right lengths a refused push uses its handle up.
 use Rattle.std.proofs.Common.{◌≡◌, ℕ, Bool, true, false, not, leb, [], ◌∷◌, Some, None, Ok, Err, Option, Result, sym, refl, ap, ◌∙◌, IfErr, cond}
-use Rattle.parts.specs.declared.calls.Call.{Call}
 use Rattle.parts.specs.declared.calls.Call.TheVariants.{Push}
 use Rattle.rules.specs.declared.types.Caller.{Caller}
-use Rattle.rules.specs.declared.types.Granted.{Granted}
 use Rattle.rules.specs.declared.types.Refusal.{Refusal}
 use Rattle.rules.specs.declared.types.Refusal.TheVariants as refuse
-use Rattle.rules.specs.Kit.{Kit}
 use Rattle.rules.specs.Heads.{is_writing_back}
 use Rattle.rules.specs.Bench.{Bench, head_at}
 use Rattle.rules.specs.Refusals.{lengths_match, is_stale, when, first_found, refusal}
-use Rattle.rules.specs.Calls.{Outcome, outcome, unless, push_of, admitted_push}
-use Rattle.rules.specs.Answers.{Answer, with_answer, call_of}
-use Rattle.rules.specs.Bounds.{InBounds}
+use Rattle.rules.specs.Calls.{unless, push_of, admitted_push}
 use Rattle.rules.proofs.Basics.{by-option}
-use Rattle.rules.proofs.LawsOfCalls.{right_lengths_stay}
 use Rattle.handles.specs.declared.commits.WritingBack.{WritingBack}
 use Rattle.handles.specs.declared.commits.Pushed.{Pushed}
 use Rattle.handles.specs.declared.refusals.Refused.{Refused}
 use Rattle.handles.specs.Handles.{uses_up, after_push, after_pushes}
-
--- any of the eight calls, by what it answers and leaves
-pub lengths_kept : {A W : Type 0} (kit : Kit W) (who : Caller) (before : Bench W) {after : Bench W} {r : Result A Refusal} {o : Outcome A W} (call : Call ℕ W) (give : A → Granted W)
-    → InBounds before.table → call_of kit before who call ≡ with_answer give o → outcome r after ≡ o → lengths_match after ≡ lengths_match before
-lengths_kept {A} {W} kit who before call give bounds is e =
-    ap (λ (x : Outcome A W). lengths_match x.left) e ∙ ap (λ (x : Answer W × Bench W). lengths_match x.1) (sym is)
-    ∙ right_lengths_stay kit before who call bounds
 
 -- with lists of right lengths, what can refuse a push uses its handle up
 refusal-uses-up : (missing stale other : Bool) (e : Refusal)

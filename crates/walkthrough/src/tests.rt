@@ -1,0 +1,262 @@
+// Calls by handle, one at a time and as a list.
+use crate::bench::Bench;
+use handles::{Closed, Pushed, Refused, Running, WritingBack};
+use parts::{Call, LinesBoard, Margin, Plain};
+use rules::{Caller, LentLists, MadeCall, Slot};
+use runs::{Answer, SetUp, run};
+use std::process::Abort;
+use std::test::Fail;
+
+fn by(head: u32, transaction: Option<u32>, call: Call<u32, i32>) -> MadeCall<i32> {
+    MadeCall {
+        lent: LentLists::Right,
+        caller: Caller { head, transaction },
+        call,
+    }
+}
+
+fn number(answer: Answer<i32>) -> u8 {
+    match answer {
+        Ok(granted) => granted.number(),
+        Err(refusal) => refusal.number(),
+    }
+}
+
+// The calls of the walk, as a list by head and handle: a run of them comes to the same answers and cells.
+#[test]
+fn walk_as_a_list(rt: HostRuntime) -> Result<(), Fail> {
+    let heap = rt.alloc();
+    let slot = Slot { cell: 0, word: 0 };
+    let mut cells = [1450, 1120];
+    let mut reads = [slot; 64];
+    let mut writes = [slot; 64];
+    let calls = [
+        by(0, None, Call::Open),
+        by(0, Some(1), Call::Read(0)),
+        by(1, None, Call::Open),
+        by(1, Some(2), Call::Write(0, 1500)),
+        by(1, Some(2), Call::Close),
+        by(0, Some(1), Call::Read(0)),
+        by(0, Some(1), Call::Again),
+        by(0, Some(1), Call::Jolt),
+        by(0, Some(1), Call::Again),
+        by(0, Some(1), Call::Jolt),
+        by(0, Some(1), Call::Again),
+        by(0, Some(1), Call::Read(0)),
+        by(0, Some(1), Call::Write(1, 1160)),
+        by(0, Some(1), Call::Write(0, 1510)),
+        by(0, Some(1), Call::Close),
+        by(0, Some(1), Call::Push),
+        by(0, Some(1), Call::Push),
+        by(1, None, Call::Open),
+        by(1, Some(2), Call::Write(0, 0)),
+        by(1, Some(3), Call::Write(0, 0)),
+        by(1, Some(3), Call::Drop),
+    ];
+    let from = SetUp {
+        heads: 2,
+        cells: 2,
+        board: Margin { below: LinesBoard },
+        policy: Plain,
+    };
+    let Ok(run) = run(heap, from, &calls, &mut cells, &mut reads, &mut writes) else {
+        return Err(Fail::new("no run"));
+    };
+    let numbers = [
+        0, 0, 0, 0, 0, 6, 0, 6, 0, 6, 0, 0, 0, 0, 1, 0, 0, 0, 12, 0, 0,
+    ];
+    assert_eq!(rt; run.answers.len(), numbers.len());
+    for (answer, expected) in run.answers.iter().zip(&numbers) {
+        assert_eq!(rt; number(*answer), *expected);
+    }
+    assert_eq!(rt; cells, [1510, 1160]);
+    Ok(())
+}
+
+// A software attempt of head 0: three interrupts, and the plain policy says so.
+fn in_software(bench: &mut Bench) -> Option<Running> {
+    let begun = Running::open(&mut bench.rig, 0, &bench.cells, &bench.reads, &bench.writes).ok()?;
+    let mut handle = begun.handle;
+    for _ in 0..3 {
+        let _ = handle.jolt(&mut bench.rig, &bench.cells, &bench.reads, &bench.writes);
+        let aborted = handle.into_aborted(&bench.rig).ok()?;
+        let begun = aborted
+            .again(&mut bench.rig, &bench.cells, &bench.reads, &bench.writes)
+            .ok()?;
+        handle = begun.handle;
+    }
+    Some(handle)
+}
+
+// A handle that comes back from a push, whether it was granted or not.
+fn kept(answer: Result<Pushed, Refused<Option<WritingBack>>>) -> Option<WritingBack> {
+    match answer {
+        Ok(Pushed::Done) => None,
+        Ok(Pushed::Left(handle, _)) => Some(handle),
+        Err(Refused { handle, .. }) => handle,
+    }
+}
+
+// A handle of a transaction that is over: 5 while its head is idle, and 12 once the head has another one.
+fn handle_of_an_ended_transaction_on<R: Abort>(rt: &R, bench: &mut Bench) -> Result<(), Fail> {
+    let Ok(old) = Running::open(&mut bench.rig, 0, &bench.cells, &bench.reads, &bench.writes) else {
+        return Err(Fail::new("no transaction"));
+    };
+    let Err(back) = old.handle.into_aborted(&bench.rig) else {
+        return Err(Fail::new("exchanged, though the head had not aborted"));
+    };
+    assert_eq!(rt; back.refusal.number(), 5);
+    let old = back.handle;
+    let head = Caller {
+        head: 0,
+        transaction: None,
+    };
+    let dropped = bench
+        .rig
+        .drop(head, &bench.cells, &bench.reads, &bench.writes);
+    assert!(rt; dropped.is_ok());
+    let idle = old.read(
+        &mut bench.rig,
+        0,
+        &bench.cells,
+        &mut bench.reads,
+        &bench.writes,
+    );
+    let Err(refusal) = idle else {
+        return Err(Fail::new("read"));
+    };
+    assert_eq!(rt; refusal.number(), 5);
+    let Ok(new) = Running::open(&mut bench.rig, 0, &bench.cells, &bench.reads, &bench.writes) else {
+        return Err(Fail::new("no second transaction"));
+    };
+    let stale = old.read(
+        &mut bench.rig,
+        0,
+        &bench.cells,
+        &mut bench.reads,
+        &bench.writes,
+    );
+    let Err(refusal) = stale else {
+        return Err(Fail::new("read"));
+    };
+    assert_eq!(rt; refusal.number(), 12);
+    let Err(back) = old.into_aborted(&bench.rig) else {
+        return Err(Fail::new("exchanged, though it was stale"));
+    };
+    assert_eq!(rt; back.refusal.number(), 12);
+    let word = new.handle.read(
+        &mut bench.rig,
+        0,
+        &bench.cells,
+        &mut bench.reads,
+        &bench.writes,
+    );
+    assert!(rt; word.is_ok());
+    let _ = new
+        .handle
+        .jolt(&mut bench.rig, &bench.cells, &bench.reads, &bench.writes);
+    let Ok(aborted) = new.handle.into_aborted(&bench.rig) else {
+        return Err(Fail::new("not exchanged"));
+    };
+    let given_up = aborted.drop(&mut bench.rig, &bench.cells, &bench.reads, &bench.writes);
+    assert!(rt; given_up.is_ok());
+    Ok(())
+}
+
+// A writing-back handle comes back from a push with wrong lists, and is used up by 5.
+fn handle_of_a_commit_on<R: Abort>(rt: &R, bench: &mut Bench) -> Result<(), Fail> {
+    let Some(handle) = in_software(bench) else {
+        return Err(Fail::new("no software attempt"));
+    };
+    for cell in 0..2 {
+        let written = handle.write(
+            &mut bench.rig,
+            cell,
+            9,
+            &bench.cells,
+            &bench.reads,
+            &mut bench.writes,
+        );
+        assert!(rt; written.is_ok());
+    }
+    let Ok(Closed::WritingBack(handle, attempts)) = handle.close(
+        &mut bench.rig,
+        &mut bench.cells,
+        &bench.reads,
+        &bench.writes,
+    ) else {
+        return Err(Fail::new("nothing to push"));
+    };
+    assert_eq!(rt; attempts, 4);
+    let none: [Slot<i32>; 0] = [];
+    let Some(handle) = kept(handle.push(&mut bench.rig, &mut bench.cells, &none, &bench.writes))
+    else {
+        return Err(Fail::new("used up by a list of wrong length"));
+    };
+    assert_eq!(rt; bench.cells, [5, 7]);
+    let Some(handle) = kept(handle.push(
+        &mut bench.rig,
+        &mut bench.cells,
+        &bench.reads,
+        &bench.writes,
+    )) else {
+        return Err(Fail::new("no slot left after one push of two"));
+    };
+    assert_eq!(rt; bench.cells, [9, 7]);
+    let head = Caller {
+        head: 0,
+        transaction: None,
+    };
+    let last = bench
+        .rig
+        .push(head, &mut bench.cells, &bench.reads, &bench.writes);
+    assert!(rt; last.is_ok());
+    assert!(rt;
+        bench
+            .rig
+            .lists_match(&bench.cells, &bench.reads, &bench.writes)
+    );
+    match handle.push(
+        &mut bench.rig,
+        &mut bench.cells,
+        &bench.reads,
+        &bench.writes,
+    ) {
+        Err(
+            Refused {
+                refusal,
+                handle: None,
+            },
+        ) => {
+            assert_eq!(rt; refusal.number(), 5);
+            Ok(())
+        }
+        Err(
+            Refused {
+                handle: Some(handle),
+                ..
+            },
+        )
+        | Ok(Pushed::Left(handle, _)) => {
+            let _ = bench.finish(handle);
+            Err(Fail::new("not used up"))
+        }
+        Ok(Pushed::Done) => Err(Fail::new("pushed once more")),
+    }
+}
+
+#[test]
+fn handle_of_an_ended_transaction(rt: HostRuntime) -> Result<(), Fail> {
+    let Ok(mut bench) = Bench::set_up([5, 7]) else {
+        return Err(Fail::new("no rig"));
+    };
+    handle_of_an_ended_transaction_on(&rt, &mut bench)
+}
+
+#[test]
+fn handle_of_a_commit(rt: HostRuntime) -> Result<(), Fail> {
+    let Ok(mut bench) = Bench::set_up([5, 7]) else {
+        return Err(Fail::new("no rig"));
+    };
+    handle_of_a_commit_on(&rt, &mut bench)
+}
