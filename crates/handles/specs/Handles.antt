@@ -1,5 +1,5 @@
 -- Calls by handle: what each gives for the rule book's answer, and which handle comes back.
-use Rattle.std.specs.Prelude.{◌≡◌, ◌+◌, drop, zero, suc, ℕ, zero, suc, Bool, true, false, Some, None, Ok, Err, Option, Result, ◌==◌, if◌then◌else◌}
+use Rattle.std.specs.Prelude.{◌≡◌, ◌+◌, drop, ℕ, zero, suc, Bool, true, false, Some, None, Ok, Err, Option, Result, ◌==◌, if◌then◌else◌}
 use Rattle.parts.specs.declared.types.Mode.{Mode}
 use Rattle.rules.specs.declared.types.Caller.{Caller}
 use Rattle.rules.specs.declared.types.Closing.{Closing}
@@ -26,6 +26,11 @@ use Rattle.handles.specs.declared.refusals.Refused.{Refused}
 abbrev pub refused : {H : Type 0} → H → Refusal → Refused H
 refused h e = record { refusal = e; handle = h }
 
+-- drop, and the exchange: the handle is used up, unless it comes back with a refusal
+abbrev pub or_back : {A H : Type 0} → H → Result A Refusal → Result A (Refused H)
+or_back h (Ok x) = Ok x
+or_back h (Err e) = Err (refused h e)
+
 -- the running handle of an attempt that has begun
 abbrev pub begun : ℕ → ℕ → Mode → Begun
 begun k n m = record { handle = record { head = k; transaction = n }; mode = m }
@@ -45,11 +50,6 @@ abbrev pub after_close : Running → Result Closing Refusal → Result Closed (R
 after_close h (Ok (closing.Complete n)) = Ok (closed.Complete n)
 after_close h (Ok (closing.WritingBack n)) = Ok (closed.WritingBack (record { head = h.head; transaction = h.transaction }) n)
 after_close h (Err e) = Err (refused h e)
-
--- drop: a granted one uses the handle up
-abbrev pub after_drop : {H : Type 0} → H → Result (Unit {0}) Refusal → Result (Unit {0}) (Refused H)
-after_drop h (Ok u) = Ok u
-after_drop h (Err e) = Err (refused h e)
 
 -- a writing-back handle is used up by 3, 5 and 12: its head does not write back for it
 abbrev pub uses_up : Refusal → Bool
@@ -100,7 +100,3 @@ exchange_of h (Some head) =
     if h.transaction == head.transaction
     then (if is_aborted head.state then Ok (record { head = h.head; transaction = h.transaction }) else Err NotTaken)
     else Err StaleHandle
-
-abbrev pub after_exchange : Running → Result Aborted Refusal → Result Aborted (Refused Running)
-after_exchange h (Ok a) = Ok a
-after_exchange h (Err e) = Err (refused h e)
