@@ -18,9 +18,8 @@ use Rattle.rules.specs.Calls.{Outcome, unless, is_last, admitted_push, push_of}
 use Rattle.rules.specs.Bounds.{InBounds}
 use Rattle.rules.proofs.Basics.{by-option, by-test}
 use Rattle.rules.proofs.Admitted.{Admitted, admitted}
-use Rattle.rules.proofs.KeptBounds.{bounds-kept}
+use Rattle.rules.proofs.KeptBounds.{bounds-kept, right_lengths_stay}
 use Rattle.rules.proofs.LogLaws.{length-log}
-use Rattle.rules.proofs.LawsOfCalls.{right_lengths_stay}
 use Rattle.rules.proofs.StepPush.{left-none, push-settles}
 use Rattle.handles.specs.declared.commits.WritingBack.{WritingBack}
 use Rattle.handles.specs.declared.commits.Pushed.{Pushed}
@@ -119,7 +118,7 @@ module _ {W : Type 0} (kit : Kit W) (who : Caller) where
             ∙ ap (λ r. put_in r (put_in (take 1 (drop h.written log)) b.cells)) (sym end)
             ∙ push-settles h.written log b.cells;
         idle = ap (λ (x : Head). x.state) (here kit who b s 0 e);
-        free = sequence kit who b s 0 e;
+        sequence = sequence kit who b s 0 e;
       }
 
   pub pushes-write-back : (n : ℕ) (b : Bench W) → InBounds b.table → (push_of b who).answer ≡ Ok n → WrittenBack b (left_by_pushes n (push_of b who).left who) who.head
@@ -137,7 +136,7 @@ module _ {W : Type 0} (kit : Kit W) (who : Caller) where
             ∙ ap (put_in (drop (h.written + 1) log-b)) (cells kit who b s (suc n) e)
             ∙ push-settles h.written log-b b.cells;
         idle = then.idle;
-        free = then.free ∙ ap (λ x. x + 1) (sequence kit who b s (suc n) e ∙ ap (λ t. cond t (b.table.sequence + 1) b.table.sequence) (not-last n));
+        sequence = then.sequence ∙ ap (λ x. x + 1) (sequence kit who b s (suc n) e ∙ ap (λ t. cond t (b.table.sequence + 1) b.table.sequence) (not-last n));
       }
 
 -- what all pushes come to, while so many are being made

@@ -7,17 +7,17 @@ use Rattle.rules.specs.declared.types.Closing.TheVariants as closing
 use Rattle.rules.specs.declared.types.Head.{Head}
 use Rattle.rules.specs.declared.types.Refusal.{Refusal}
 use Rattle.rules.specs.declared.types.Refusal.TheVariants.{NoHead, NotTaken, StaleHandle}
-use Rattle.rules.specs.Heads.{is_aborted}
 use Rattle.rules.specs.declared.types.State.TheVariants.{Idle}
+use Rattle.rules.specs.Heads.{is_aborted}
 use Rattle.rules.specs.Logs.{put_in}
 use Rattle.rules.specs.Bench.{Bench, head_at, write_log}
 use Rattle.rules.specs.Calls.{push_of}
 use Rattle.handles.specs.declared.attempts.Running.{Running}
 use Rattle.handles.specs.declared.attempts.Aborted.{Aborted}
-use Rattle.handles.specs.declared.commits.WritingBack.{WritingBack}
 use Rattle.handles.specs.declared.attempts.Begun.{Begun}
 use Rattle.handles.specs.declared.attempts.Closed.{Closed}
 use Rattle.handles.specs.declared.attempts.Closed.TheVariants as closed
+use Rattle.handles.specs.declared.commits.WritingBack.{WritingBack}
 use Rattle.handles.specs.declared.commits.Pushed.{Pushed}
 use Rattle.handles.specs.declared.commits.Pushed.TheVariants as pushed
 use Rattle.handles.specs.declared.refusals.Refused.{Refused}
@@ -27,9 +27,9 @@ abbrev pub refused : {H : Type 0} → H → Refusal → Refused H
 refused h e = record { refusal = e; handle = h }
 
 -- drop, and the exchange: the handle is used up, unless it comes back with a refusal
-abbrev pub or_back : {A H : Type 0} → H → Result A Refusal → Result A (Refused H)
-or_back h (Ok x) = Ok x
-or_back h (Err e) = Err (refused h e)
+abbrev pub or_given_back : {A H : Type 0} → H → Result A Refusal → Result A (Refused H)
+or_given_back h (Ok x) = Ok x
+or_given_back h (Err e) = Err (refused h e)
 
 -- the running handle of an attempt that has begun
 abbrev pub begun : ℕ → ℕ → Mode → Begun
@@ -86,11 +86,11 @@ after_pushes h (Ok n) = Ok (1 + n)
 after_pushes h (Err e) = Err (not_pushed h e)
 
 -- what is left once the head k has no slot left to push: what was still to be written back of its write log is in the cells,
--- in order, the head is idle, and the sequence lock is free
+-- in order, the head is idle, and the sequence number is one higher
 pub record WrittenBack {W : Type 0} (before after : Bench W) (k : ℕ) : Type 0 where
   pub cells : after.cells ≡ put_in (drop (head_at before k).written (write_log before k)) before.cells
   pub idle : (head_at after k).state ≡ Idle
-  pub free : after.table.sequence ≡ before.table.sequence + 1
+  pub sequence : after.table.sequence ≡ before.table.sequence + 1
 
 -- the exchange of a running handle for an aborted one is no call: it asks for no lists, and changes nothing. It is refused
 -- with 3 where there is no such head, then with 12, and then with 5 where the head has not aborted

@@ -4,10 +4,11 @@ ghost use Rattle.rules.specs.Kit.{kit_of};
 ghost use Rattle.rules.specs.Bench.{bench, head_at, head_of};
 ghost use Rattle.rules.specs.Refusals.{by_handle, by_number, lengths_match};
 ghost use Rattle.rules.specs.Calls.{outcome, open_of, jolt_of, drop_of, read_of, write_of, close_of, again_of};
-ghost use Rattle.handles.specs.Handles.{after_again, after_close, after_open, exchange_of, or_back};
+ghost use Rattle.handles.specs.Handles.{after_again, after_close, after_open, exchange_of, or_given_back};
 
+use crate::callers::by_handle;
 use crate::commits::WritingBack;
-use crate::refusals::{Refused, by_handle};
+use crate::refusals::Refused;
 use parts::{Board, Mode, Policy, Word};
 use rig::Rig;
 use rules::{Caller, Closing, Refusal, Slot, State};
@@ -186,7 +187,7 @@ impl Running {
         writes: &[Slot<W>],
     ) -> Result<(), Refused<Running>>
         ensures answer { let before = bench rig.old.table cells.now reads.now writes.now in
-            result ≡ or_back self (drop_of before (by_handle self.head self.transaction)).answer }
+            result ≡ or_given_back self (drop_of before (by_handle self.head self.transaction)).answer }
         ensures left { let before = bench rig.old.table cells.now reads.now writes.now in
             bench rig.new.table cells.now reads.now writes.now ≡ (drop_of before (by_handle self.head self.transaction)).left }
         ensures lengths { lengths_match (bench rig.new.table cells.now reads.now writes.now)
@@ -221,7 +222,7 @@ impl Running {
         self,
         rig: &Rig<B, P>,
     ) -> Result<Aborted, Refused<Running>>
-        ensures { result ≡ or_back self (exchange_of self (head_of rig.now.table self.head)) }
+        ensures { result ≡ or_given_back self (exchange_of self (head_of rig.now.table self.head)) }
     {
         self.aborted(rig).map_err(|refusal| Refused {
             refusal,
@@ -271,7 +272,7 @@ impl Aborted {
         writes: &[Slot<W>],
     ) -> Result<(), Refused<Aborted>>
         ensures answer { let before = bench rig.old.table cells.now reads.now writes.now in
-            result ≡ or_back self (drop_of before (by_handle self.head self.transaction)).answer }
+            result ≡ or_given_back self (drop_of before (by_handle self.head self.transaction)).answer }
         ensures left { let before = bench rig.old.table cells.now reads.now writes.now in
             bench rig.new.table cells.now reads.now writes.now ≡ (drop_of before (by_handle self.head self.transaction)).left }
         ensures lengths { lengths_match (bench rig.new.table cells.now reads.now writes.now)

@@ -5,13 +5,14 @@ ghost use Rattle.rules.specs.Refusals.{by_handle, lengths_match};
 ghost use Rattle.rules.specs.Calls.{push_of};
 ghost use Rattle.handles.specs.Handles.{after_push, after_pushes, pushes_of, not_pushed, WrittenBack};
 
-use crate::refusals::{Refused, by_handle};
+use crate::callers::by_handle;
+use crate::refusals::Refused;
 use parts::{Board, Policy, Word};
 use rig::Rig;
 use rules::{Refusal, Slot};
 
-// A software commit that is putting its writes into the cells. While it does, no other head can begin or read, so its
-// handle must not be forgotten: it is pushed until no slot is left.
+// A software commit that is putting its writes into the cells. While it does, others wait with 7, so its handle must not be
+// forgotten: it is pushed until no slot is left.
 pub struct WritingBack {
     pub(crate) head: u32,
     pub(crate) transaction: u32,

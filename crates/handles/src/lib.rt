@@ -4,6 +4,7 @@
 #![tactic(auto)]
 
 mod attempts;
+mod callers;
 mod commits;
 mod refusals;
 

@@ -9,7 +9,7 @@ use Rattle.rules.specs.Bounds.{InBounds}
 use Rattle.rules.specs.Refusals.{lengths_match}
 use Rattle.rules.specs.Calls.{Outcome, outcome}
 use Rattle.rules.specs.Answers.{call_of}
-use Rattle.rules.proofs.LawsOfCalls.{right_lengths_stay}
+use Rattle.rules.proofs.KeptBounds.{right_lengths_stay}
 
 pub left_in_bounds : {A W : Type 0} (r : Result A Refusal) (b : Bench W) (o : Outcome A W) → outcome r b ≡ o → InBounds o.left.table → InBounds b.table
 left_in_bounds r b o e = subst InBounds (sym (ap (λ (x : Outcome _ _). x.left.table) e))

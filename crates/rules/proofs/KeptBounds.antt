@@ -22,7 +22,8 @@ use Rattle.rules.specs.Logs.{is_empty, put, note, lacks_room_for, names, put_in}
 use Rattle.rules.specs.Heads.{new_head, is_idle, is_hardware, is_software, is_writing_back, abort, with_transaction, begin, state_in}
 use Rattle.rules.specs.Bench.{Bench, head_at, table_with, read_log, write_log, present_snapshot, is_odd, lock_out, after_loads, cells_validated}
 use Rattle.rules.specs.Calls.{Outcome, admitted_open, admitted_read, admitted_write, admitted_close, admitted_push, admitted_jolt, admitted_again, admitted_drop, start_write_back, in_range, new_table, again_mode, is_last}
-use Rattle.rules.specs.Answers.{Answer}
+use Rattle.rules.specs.Refusals.{lengths_match}
+use Rattle.rules.specs.Answers.{Answer, call_of}
 use Rattle.rules.specs.Bounds.{HeadBounds, InBounds, SameSizes, BoundsAtSetUp, BoundsKept}
 use Rattle.rules.proofs.Records.{become, wrote, resnap, read_more, wrote_more, cancel}
 use Rattle.rules.proofs.Basics.{by-test, some-length}
@@ -198,3 +199,9 @@ pub bounds-kept : {W : Type 0} (kit : Kit W) → BoundsKept kit
 bounds-kept {W} kit b who call s =
     by_call kit b who call (λ (r : Answer W × Bench W). Kept b r.1) (λ e _. (s, record { head_count = refl; cell_count = refl; cells = refl; reads = refl; writes = refl }))
     (λ q. let a = admitted b who call q in granted-kept kit b s who call a (omega (arith, a.head, s.few_heads)))
+
+-- so whether the lists have the right lengths does not change
+pub right_lengths_stay : {W : Type 0} (kit : Kit W) (b : Bench W) (who : Caller) (call : Call ℕ W) → InBounds b.table → lengths_match (call_of kit b who call).1 ≡ lengths_match b
+right_lengths_stay kit b who call bounds =
+    let same = (bounds-kept kit b who call bounds).1 in
+    rw same.cells (rw same.reads (rw same.writes (rw same.head_count (rw same.cell_count refl))))

@@ -19,7 +19,7 @@ use Rattle.rules.specs.Bench.{Bench, is_odd, head_at, after_loads, cells_validat
 use Rattle.rules.specs.Refusals.{by_handle, by_number, lengths_match, is_beyond, takes, why_not, waits, lacks_slot, lacks_transaction, lacks_attempt, when, first_found, refusal, refusals}
 use Rattle.rules.specs.Calls.{Outcome}
 use Rattle.rules.specs.Answers.{Answer, with_answer, call_of}
-use Rattle.rules.specs.CallLaws.{RefusalsChangeNothing, AbortsTellTheirCause, WrongListsRefused, RightLengthsStay, may_write, CellsChangeByCommits, OthersOnlyAbort, HandlesCallAsHeads, StaleHandlesRefused, OpenTakesNextNumber, NumbersStay, StrayCells, CallLaws, OthersSlotsStay, is_open}
+use Rattle.rules.specs.CallLaws.{RefusalsChangeNothing, AbortsTellTheirCause, WrongListsRefused, may_write, CellsChangeByCommits, OthersOnlyAbort, HandlesCallAsHeads, StaleHandlesRefused, OpenTakesNextNumber, NumbersStay, StrayCells, CallLaws, OthersSlotsStay, is_open}
 use Rattle.rules.proofs.Basics.{wrong}
 use Rattle.rules.proofs.Sweeps.{Hit, Swept, swept_none, swept-lock, swept_at, number-set}
 use Rattle.rules.proofs.Cases.{admitted_of, by_call, by_read, by-write, by-close}
@@ -33,7 +33,6 @@ use Rattle.std.specs.List.{AllByRecursion}
 use Rattle.rules.specs.Logs.{put, note, log_of, lacks_room_for, holds, holds_same, cells_loaded}
 use Rattle.rules.proofs.Records.{wrote_more}
 use Rattle.rules.specs.Bounds.{InBounds, HeadBounds}
-use Rattle.rules.proofs.KeptBounds.{bounds-kept}
 use Rattle.rules.proofs.Laid.{log-laid-other}
 use Rattle.rules.proofs.LogLaws.{word_none, few-noted, few-put, length-log}
 
@@ -331,11 +330,6 @@ pub others-slots-stay : {W : Type 0} (kit : Kit W) → OthersSlotsStay kit
 others-slots-stay {W} kit b who call j bounds ne =
     by_call kit b who call (λ (r : Answer W × Bench W). SameSlots j b r.1) (λ e _. (refl, refl)) (λ none. slots-kept kit b bounds who j ne call (admitted b who call none))
 
-pub right_lengths_stay : {W : Type 0} (kit : Kit W) → RightLengthsStay kit
-right_lengths_stay kit b who call bounds =
-    let same = (bounds-kept kit b who call bounds).1 in
-    rw same.cells (rw same.reads (rw same.writes (rw same.head_count (rw same.cell_count refl))))
-
 pub stray-cells : {W : Type 0} (kit : Kit W) → StrayCells kit
 stray-cells {W} kit = record { differs = differs; not_loaded = inside; not_written = λ s cells far. set_past cells s.cell s.word far }
   where
@@ -356,7 +350,6 @@ call-laws kit = record {
   refusals = refusals-change-nothing kit;
   causes = aborts-tell-their-cause kit;
   lists = wrong-lists-refused kit;
-  lengths = right_lengths_stay kit;
   cells = cells-change-by-commits kit;
   others = others-only-abort kit;
   slots = others-slots-stay kit;

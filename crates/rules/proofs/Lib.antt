@@ -6,10 +6,10 @@ pub mod Laid
 pub mod Taken
 pub mod Sweeps
 pub mod Cases
+pub mod LawsOfCalls
 pub mod HeadBounds
 pub mod TableBounds
 pub mod KeptBounds
-pub mod LawsOfCalls
 pub mod EndedHandles
 pub mod Seats
 pub mod LogLaws

@@ -52,11 +52,6 @@ module _ {W : Type 0} (kit : Kit W) where
   WrongListsRefused =
       (b : Bench W) (who : Caller) (call : Call ℕ W) → lengths_match b ≡ false → call_of kit b who call ≡ (Err refuse.Lists, b)
 
-  -- lists of right lengths stay so: no call changes the length of a list, or how many heads and cells the rig has
-  abbrev pub RightLengthsStay : Type 0
-  RightLengthsStay =
-      (b : Bench W) (who : Caller) (call : Call ℕ W) → InBounds b.table → lengths_match (left b who call) ≡ lengths_match b
-
   -- the cells change only in a granted hardware close or push
   abbrev pub CellsChangeByCommits : Type 0
   CellsChangeByCommits =
@@ -115,7 +110,6 @@ module _ {W : Type 0} (kit : Kit W) where
     pub refusals : RefusalsChangeNothing
     pub causes : AbortsTellTheirCause
     pub lists : WrongListsRefused
-    pub lengths : RightLengthsStay
     pub cells : CellsChangeByCommits
     pub others : OthersOnlyAbort
     pub slots : OthersSlotsStay

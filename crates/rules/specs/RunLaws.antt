@@ -5,6 +5,7 @@ use Rattle.std.specs.List.{slice_get}
 use Rattle.parts.specs.declared.calls.Call.{Call}
 use Rattle.parts.specs.declared.calls.Call.TheVariants.{Open, Close, Push, Drop}
 use Rattle.rules.specs.declared.types.Granted.{Granted}
+use Rattle.rules.specs.declared.types.Granted.TheVariants as granted
 use Rattle.rules.specs.declared.types.MadeCall.{MadeCall}
 use Rattle.rules.specs.declared.types.Slot.{Slot}
 use Rattle.rules.specs.Kit.{Kit}
@@ -13,7 +14,7 @@ use Rattle.rules.specs.Bench.{Bench}
 use Rattle.rules.specs.Refusals.{by_handle}
 use Rattle.rules.specs.Calls.{set_up}
 use Rattle.rules.specs.Answers.{Answer}
-use Rattle.rules.specs.History.{History, GrantedClose, OwnRead, Attempt, EndedTransaction, nothing_yet, history_of, cells_after, closes_of_others}
+use Rattle.rules.specs.History.{History, GrantedClose, OwnRead, Attempt, EndedTransaction, starts_write_back, nothing_yet, history_of, cells_after, closes_of_others}
 use Rattle.rules.specs.Runs.{answers_of, left_by}
 
 -- each word is its cell's word
@@ -70,11 +71,16 @@ ends Close = true
 ends Drop = true
 ends call = false
 
--- and those that may still be granted by its handle then: the pushes of its commit, and an open, as of any idle head
-abbrev pub may_follow : {W : Type 0} → Call ℕ W → Bool
-may_follow Push = true
-may_follow Open = true
-may_follow call = false
+-- whether there is something to push once that has been granted
+abbrev pub leaves_pushes : {W : Type 0} → Granted W → Bool
+leaves_pushes (granted.Closed how) = starts_write_back how
+leaves_pushes g = false
+
+-- which calls the handle may still be granted then: an open, as any caller of an idle head, and pushes if there are some
+abbrev pub may_follow : {W : Type 0} → Bool → Call ℕ W → Bool
+may_follow pushes Open = true
+may_follow pushes Push = pushes
+may_follow pushes call = false
 
 -- the i-th call of a run was this one, and was granted
 pub record GrantedAt {W : Type 0} (calls : List (MadeCall W)) (answers : List (Answer W)) (i : ℕ) (call : MadeCall W) : Type 0 where
@@ -82,12 +88,11 @@ pub record GrantedAt {W : Type 0} (calls : List (MadeCall W)) (answers : List (A
   pub given : Granted W
   pub granted : slice_get answers i ≡ Some (Ok given)
 
--- once the call by a handle that ends its transaction has been granted, no later call by that handle is, but those; so a
--- program that cannot make them loses nothing
+-- once a close or a drop by a handle has been granted, the handle is granted no other calls than those
 abbrev pub HandlesEnd : {W : Type 0} → List (MadeCall W) → List (Answer W) → Type 0
 HandlesEnd {W} calls answers =
-    (i j k n : ℕ) (first later : MadeCall W) → i < j → GrantedAt calls answers i first → GrantedAt calls answers j later
-    → first.caller ≡ by_handle k n → later.caller ≡ by_handle k n → ends first.call ≡ true → may_follow later.call ≡ true
+    (i j k n : ℕ) (first later : MadeCall W) → i < j → (end : GrantedAt calls answers i first) → GrantedAt calls answers j later
+    → first.caller ≡ by_handle k n → later.caller ≡ by_handle k n → ends first.call ≡ true → may_follow (leaves_pushes end.given) later.call ≡ true
 
 -- of every list of calls on every rig that is set up
 abbrev pub HandlesEndInRuns : {W : Type 0} → Kit W → Type 0

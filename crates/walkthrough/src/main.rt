@@ -33,9 +33,9 @@ fn walk(rt: &HostRuntime) -> Result<(), Stopped> {
     write(rt, &mut bench, 0, &reader, 0, 1510)?;
     commit(rt, &mut bench, 0, reader)?;
 
-    let idler = open(rt, &mut bench, 1)?;
-    write(rt, &mut bench, 1, &idler, 0, 0)?;
-    give_up(rt, &mut bench, 1, idler)?;
+    let second = open(rt, &mut bench, 1)?;
+    write(rt, &mut bench, 1, &second, 0, 0)?;
+    give_up(rt, &mut bench, 1, second)?;
 
     for (cell, word) in bench.cells.iter().enumerate() {
         println!(rt; "cell {cell} holds {word}")?;

@@ -2,27 +2,51 @@
 use crate::bench::Bench;
 use handles::{Closed, Pushed, Refused, Running, WritingBack};
 use parts::{Call, LinesBoard, Margin, Plain};
-use rules::{Caller, LentLists, MadeCall, Slot};
+use rules::{Caller, Closing, Granted, LentLists, MadeCall, Refusal, Slot};
 use runs::{Answer, SetUp, run};
 use std::process::Abort;
 use std::test::Fail;
 
-fn by(head: u32, transaction: Option<u32>, call: Call<u32, i32>) -> MadeCall<i32> {
-    MadeCall {
-        lent: LentLists::Right,
-        caller: Caller { head, transaction },
-        call,
-    }
-}
-
-fn number(answer: Answer<i32>) -> u8 {
+// The number of an answer, and its value, 0 where it has none.
+fn shown(answer: Answer<i32>) -> (u8, u32) {
     match answer {
-        Ok(granted) => granted.number(),
-        Err(refusal) => refusal.number(),
+        Ok(Granted::Begun(mode)) => (0, u32::from(mode.number())),
+        Ok(Granted::Word(word)) => (0, word.unsigned_abs()),
+        Ok(Granted::Done) => (0, 0),
+        Ok(Granted::Closed(Closing::Complete(attempts))) => (0, attempts),
+        Ok(Granted::Closed(Closing::WritingBack(attempts))) => (1, attempts),
+        Ok(Granted::SlotsLeft(slots)) => (0, u32::from(slots)),
+        Err(Refusal::Aborted(cause)) => (6, u32::from(cause.number())),
+        Err(refusal) => (refusal.number(), 0),
     }
 }
 
-// The calls of the walk, as a list by head and handle: a run of them comes to the same answers and cells.
+// The calls of the walk as a list, made by head and by handle, and one by a handle whose transaction has ended.
+static CALLS: [(u32, Option<u32>, Call<u32, i32>, (u8, u32)); 21] = [
+    (0, None, Call::Open, (0, 1)),
+    (0, Some(1), Call::Read(0), (0, 1450)),
+    (1, None, Call::Open, (0, 1)),
+    (1, Some(2), Call::Write(0, 1500), (0, 0)),
+    (1, Some(2), Call::Close, (0, 1)),
+    (0, Some(1), Call::Read(0), (6, 1)),
+    (0, Some(1), Call::Again, (0, 1)),
+    (0, Some(1), Call::Jolt, (6, 4)),
+    (0, Some(1), Call::Again, (0, 1)),
+    (0, Some(1), Call::Jolt, (6, 4)),
+    (0, Some(1), Call::Again, (0, 2)),
+    (0, Some(1), Call::Read(0), (0, 1500)),
+    (0, Some(1), Call::Write(1, 1160), (0, 0)),
+    (0, Some(1), Call::Write(0, 1510), (0, 0)),
+    (0, Some(1), Call::Close, (1, 4)),
+    (0, Some(1), Call::Push, (0, 1)),
+    (0, Some(1), Call::Push, (0, 0)),
+    (1, None, Call::Open, (0, 1)),
+    (1, Some(2), Call::Write(0, 0), (12, 0)),
+    (1, Some(3), Call::Write(0, 0), (0, 0)),
+    (1, Some(3), Call::Drop, (0, 0)),
+];
+
+// A run of them comes to the answers and the cells of the walk.
 #[test]
 fn walk_as_a_list(rt: HostRuntime) -> Result<(), Fail> {
     let heap = rt.alloc();
@@ -30,29 +54,14 @@ fn walk_as_a_list(rt: HostRuntime) -> Result<(), Fail> {
     let mut cells = [1450, 1120];
     let mut reads = [slot; 64];
     let mut writes = [slot; 64];
-    let calls = [
-        by(0, None, Call::Open),
-        by(0, Some(1), Call::Read(0)),
-        by(1, None, Call::Open),
-        by(1, Some(2), Call::Write(0, 1500)),
-        by(1, Some(2), Call::Close),
-        by(0, Some(1), Call::Read(0)),
-        by(0, Some(1), Call::Again),
-        by(0, Some(1), Call::Jolt),
-        by(0, Some(1), Call::Again),
-        by(0, Some(1), Call::Jolt),
-        by(0, Some(1), Call::Again),
-        by(0, Some(1), Call::Read(0)),
-        by(0, Some(1), Call::Write(1, 1160)),
-        by(0, Some(1), Call::Write(0, 1510)),
-        by(0, Some(1), Call::Close),
-        by(0, Some(1), Call::Push),
-        by(0, Some(1), Call::Push),
-        by(1, None, Call::Open),
-        by(1, Some(2), Call::Write(0, 0)),
-        by(1, Some(3), Call::Write(0, 0)),
-        by(1, Some(3), Call::Drop),
-    ];
+    let mut calls = Vec::new(heap);
+    for (head, transaction, call, _) in CALLS {
+        calls.push(MadeCall {
+            lent: LentLists::Right,
+            caller: Caller { head, transaction },
+            call,
+        })?;
+    }
     let from = SetUp {
         heads: 2,
         cells: 2,
@@ -62,12 +71,9 @@ fn walk_as_a_list(rt: HostRuntime) -> Result<(), Fail> {
     let Ok(run) = run(heap, from, &calls, &mut cells, &mut reads, &mut writes) else {
         return Err(Fail::new("no run"));
     };
-    let numbers = [
-        0, 0, 0, 0, 0, 6, 0, 6, 0, 6, 0, 0, 0, 0, 1, 0, 0, 0, 12, 0, 0,
-    ];
-    assert_eq!(rt; run.answers.len(), numbers.len());
-    for (answer, expected) in run.answers.iter().zip(&numbers) {
-        assert_eq!(rt; number(*answer), *expected);
+    assert_eq!(rt; run.answers.len(), CALLS.len());
+    for (answer, (_, _, _, expected)) in run.answers.iter().zip(&CALLS) {
+        assert_eq!(rt; shown(*answer), *expected);
     }
     assert_eq!(rt; cells, [1510, 1160]);
     Ok(())
@@ -189,9 +195,22 @@ fn handle_of_a_commit_on<R: Abort>(rt: &R, bench: &mut Bench) -> Result<(), Fail
     };
     assert_eq!(rt; attempts, 4);
     let none: [Slot<i32>; 0] = [];
-    let Some(handle) = kept(handle.push(&mut bench.rig, &mut bench.cells, &none, &bench.writes))
-    else {
-        return Err(Fail::new("used up by a list of wrong length"));
+    let handle = match handle.push(&mut bench.rig, &mut bench.cells, &none, &bench.writes) {
+        Err(
+            Refused {
+                refusal,
+                handle: Some(handle),
+            },
+        ) => {
+            assert_eq!(rt; refusal.number(), 2);
+            handle
+        }
+        answer => {
+            if let Some(handle) = kept(answer) {
+                let _ = bench.finish(handle);
+            }
+            return Err(Fail::new("not refused for a list of wrong length"));
+        }
     };
     assert_eq!(rt; bench.cells, [5, 7]);
     let Some(handle) = kept(handle.push(
