@@ -1,7 +1,9 @@
 // A rig on the bench, with the lists that it is lent.
-ghost use Rattle.std.specs.Prelude.{◌≡◌, true};
+ghost use Rattle.std.specs.Prelude.{◌≡◌, IfOk, true};
 ghost use Rattle.rules.specs.Bench.{bench};
+ghost use Rattle.rules.specs.Calls.{new_table};
 ghost use Rattle.rules.specs.Refusals.{lengths_match};
+ghost use Rattle.handles.specs.Handles.{WrittenBack};
 
 use handles::{Refused, WritingBack};
 use parts::{LinesBoard, Margin, Plain};
@@ -19,7 +21,9 @@ pub(crate) struct Bench {
 }
 
 impl Bench {
-    pub(crate) fn set_up(cells: [i32; 2]) -> Result<Bench, Refusal> {
+    pub(crate) fn set_up(cells: [i32; 2]) -> Result<Bench, Refusal>
+        ensures { IfOk result (λ b. (b.cells ≡ cells) × (b.rig.table ≡ new_table 2 2)) }
+    {
         let slot = Slot { cell: 0, word: 0 };
         let rig = Rig::set_up(2, 2, Margin { below: LinesBoard }, Plain)?;
         Ok(Bench {
@@ -31,7 +35,11 @@ impl Bench {
     }
 
     // Pushes until no slot is left. With lists of the right lengths even a refusal leaves no handle to be forgotten.
-    pub(crate) fn finish(&mut self, handle: WritingBack) -> Result<u8, Refusal> {
+    pub(crate) fn finish(&mut self, handle: WritingBack) -> Result<u8, Refusal>
+        ensures { let before = bench self.old.rig.table self.old.cells self.old.reads self.old.writes in
+            let after = bench self.new.rig.table self.new.cells self.new.reads self.new.writes in
+            IfOk result (λ _. WrittenBack before after handle.head) }
+    {
         match handle.push_all(&mut self.rig, &mut self.cells, &self.reads, &self.writes) {
             Ok(pushes) => Ok(pushes),
             Err(Refused { refusal, handle: _ }) => Err(refusal),
