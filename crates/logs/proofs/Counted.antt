@@ -1,11 +1,26 @@
 -- Lines touched.
-use Rattle.std.proofs.Common.{true, ◌≡◌, ℕ, suc, ◌+◌, false, cond, ◌||◌, eqb, List, [], ◌∷◌, ◌++◌, arith, refl, ap, ◌∙◌}
+use Rattle.std.proofs.Common.{true, ◌≡◌, ℕ, suc, ◌+◌, ◌%◌, ◌-◌, ◌<◌, ◌≤◌, Bool, false, not, ◌||◌, get_or, set, drop, length, sym, eqb, List, [], ◌∷◌, ◌++◌, arith, refl, ap, ◌∙◌}
 use Rattle.std.specs.List.{list_any}
 use Rattle.std.proofs.lemmas.List.Folds.{list_any-append}
+use Rattle.std.proofs.lemmas.List.{get_or-set_other, drop_more}
+use Rattle.std.proofs.lemmas.Grind.{get_or-set_at}
+use Rattle.std.proofs.lemmas.Bool.{eqb-true, eqb-false}
 use Rattle.rules.specs.declared.types.Slot.{Slot}
 use Rattle.rules.specs.Logs.{touches, lines_of, distinct_count}
-use Rattle.rules.proofs.Basics.{by-test}
-use Rattle.logs.specs.Lines.{own_lines}
+use Rattle.rules.proofs.Basics.{by-test, wrong}
+use Rattle.logs.specs.Lines.{Marked}
+
+turned : (b v : Bool) → not b ≡ v → b ≡ not v
+turned true v e = ap not e
+turned false v e = ap not e
+
+-- one element more, from the back
+pub one_before : {X : Type 0} (xs ys : List X) (left : ℕ) (d : X) → 0 < left → left ≤ length xs
+    → drop (left - 1) xs ++ ys ≡ get_or xs (left - 1) d ∷ (drop left xs ++ ys)
+one_before xs ys left d some le =
+    let here : left - 1 < length xs = omega arith in
+    let back : left - 1 + 1 ≡ left = omega arith in
+    ap (λ zs. zs ++ ys) (drop_more xs (left - 1) d here ∙ ap (λ n. get_or xs (left - 1) d ∷ drop n xs) back)
 
 module _ {W : Type 0} (line : ℕ → ℕ) where
   pub touches-lines : (l : ℕ) (log : List (Slot W)) → list_any (λ n. eqb l n) (lines_of line log) ≡ touches line l log
@@ -15,25 +30,6 @@ module _ {W : Type 0} (line : ℕ → ℕ) where
   either : (l : ℕ) (xs ys : List (Slot W)) → list_any (λ n. eqb l n) (lines_of line (xs ++ ys)) ≡ (touches line l xs || touches line l ys)
   either l xs ys = touches-lines l (xs ++ ys) ∙ list_any-append (λ (s : Slot W). eqb l (line s.cell)) xs ys
 
-  alone : (ys : List (Slot W)) → own_lines line ys [] ≡ distinct_count (lines_of line ys)
-  alone [] = refl
-  alone (s ∷ ys) =
-      rw (touches-lines (line s.cell) ys)
-      (by-test (touches line (line s.cell) ys) (λ b. cond (b || false) (own_lines line ys []) (suc (own_lines line ys [])) ≡ cond b (distinct_count (lines_of line ys)) (suc (distinct_count (lines_of line ys))))
-      (λ _. alone ys) (λ _. ap suc (alone ys)))
-
-  -- a line of both logs counts where it comes last
-  counted : (xs ys : List (Slot W)) → own_lines line xs ys + own_lines line ys [] ≡ distinct_count (lines_of line (xs ++ ys))
-  counted [] ys = let e = alone ys in omega arith
-  counted (s ∷ xs) ys =
-      rw (either (line s.cell) xs ys)
-      (by-test (touches line (line s.cell) xs || touches line (line s.cell) ys)
-      (λ b. cond b (own_lines line xs ys) (suc (own_lines line xs ys)) + own_lines line ys [] ≡ cond b (distinct_count (lines_of line (xs ++ ys))) (suc (distinct_count (lines_of line (xs ++ ys)))))
-      (λ _. counted xs ys) (λ _. let e = counted xs ys in omega arith))
-
-  pub lines_counted : (xs ys none : List (Slot W)) (n m : ℕ) → none ≡ [] → n ≡ own_lines line xs ys → m ≡ own_lines line ys none → n + m ≡ distinct_count (lines_of line (xs ++ ys))
-  lines_counted xs ys none n m e a b = rw (a, b, e) (counted xs ys)
-
   pub none_more : (l n : ℕ) (xs ys : List (Slot W)) → n ≡ distinct_count (lines_of line (xs ++ ys)) → (touches line l xs || touches line l ys) ≡ true
       → n ≡ distinct_count (l ∷ lines_of line (xs ++ ys))
   none_more l n xs ys e t = rw (either l xs ys, t) e
@@ -41,3 +37,38 @@ module _ {W : Type 0} (line : ℕ → ℕ) where
   pub one_more : (l n : ℕ) (xs ys : List (Slot W)) → n ≡ distinct_count (lines_of line (xs ++ ys)) → (touches line l xs || touches line l ys) ≡ false
       → n + 1 ≡ distinct_count (l ∷ lines_of line (xs ++ ys))
   one_more l n xs ys e t = rw (either l xs ys, t) (let q : n + 1 ≡ suc n = omega arith in q ∙ ap suc e)
+
+  -- the count after one line more, new or not
+  pub counted_new : (l n m : ℕ) (xs ys : List (Slot W)) (fresh : Bool) → fresh ≡ not (touches line l xs || touches line l ys)
+      → n ≡ distinct_count (lines_of line (xs ++ ys)) → fresh ≡ true → m ≡ n + 1 → m ≡ distinct_count (l ∷ lines_of line (xs ++ ys))
+  counted_new l n m xs ys fresh f e t q = q ∙ one_more l n xs ys e (turned (touches line l xs || touches line l ys) true (sym f ∙ t))
+
+  pub counted_known : (l n m : ℕ) (xs ys : List (Slot W)) (fresh : Bool) → fresh ≡ not (touches line l xs || touches line l ys)
+      → n ≡ distinct_count (lines_of line (xs ++ ys)) → fresh ≡ false → m ≡ n → m ≡ distinct_count (l ∷ lines_of line (xs ++ ys))
+  counted_known l n m xs ys fresh f e t q = q ∙ none_more l n xs ys e (turned (touches line l xs || touches line l ys) false (sym f ∙ t))
+
+  -- a line whose remainder is not marked is on neither log
+  pub unmarked_new : (marks : List Bool) (l : ℕ) (xs ys : List (Slot W)) → Marked line marks (xs ++ ys) → get_or marks (l % 64) false ≡ false
+      → not (touches line l xs || touches line l ys) ≡ true
+  unmarked_new marks l xs ys m e =
+      by-test (touches line l xs || touches line l ys) (λ b. not b ≡ true)
+      (λ t. wrong (sym e ∙ m l (list_any-append (λ (s : Slot W). eqb l (line s.cell)) xs ys ∙ t))) (λ _. refl)
+
+  -- once its remainder is marked, a line more may be touched
+  pub marked_more : (marks : List Bool) (s : Slot W) (log : List (Slot W)) → length marks ≡ 64 → Marked line marks log → Marked line (set marks (line s.cell % 64) true) (s ∷ log)
+  marked_more marks s log long m l t = by-test (eqb l (line s.cell)) (λ b. (b || touches line l log) ≡ true → get_or (set marks i true) (l % 64) false ≡ true) here before t
+    where
+      i : ℕ
+      i = line s.cell % 64
+
+      at : (j : ℕ) → j ≡ i → get_or (set marks i true) j false ≡ true
+      at j e = get_or-set_at marks i j true false e (omega (arith, long))
+
+      here : eqb l (line s.cell) ≡ true → true ≡ true → get_or (set marks i true) (l % 64) false ≡ true
+      here e q = at (l % 64) (ap (λ n. n % 64) (eqb-true l (line s.cell) e))
+
+      before : eqb l (line s.cell) ≡ false → touches line l log ≡ true → get_or (set marks i true) (l % 64) false ≡ true
+      before e q =
+          by-test (eqb (l % 64) i) (λ _. get_or (set marks i true) (l % 64) false ≡ true)
+          (λ same. at (l % 64) (eqb-true (l % 64) i same))
+          (λ off. get_or-set_other marks i (l % 64) true false (eqb-false (l % 64) i off) ∙ m l q)

@@ -1,6 +1,6 @@
 -- Lines, log by log.
 use Rattle.std.specs.List.{list_any}
-use Rattle.std.specs.Prelude.{ℕ, suc, Bool, List, [], ◌∷◌, ◌||◌, if◌then◌else◌}
+use Rattle.std.specs.Prelude.{◌≡◌, ℕ, ◌%◌, Bool, true, false, List, slice_index_or}
 use Rattle.rules.specs.declared.types.Slot.{Slot}
 use Rattle.rules.specs.Logs.{touches}
 
@@ -9,8 +9,6 @@ module _ {W : Type 0} (line : ℕ → ℕ) where
   abbrev pub shares_line : List (Slot W) → List (Slot W) → Bool
   shares_line log other = list_any (λ s. touches line (line s.cell) other) log
 
-  -- how many different lines of the log the other does not touch
-  abbrev pub own_lines : List (Slot W) → List (Slot W) → ℕ
-  own_lines [] other = 0
-  own_lines (s ∷ log) other =
-      if touches line (line s.cell) log || touches line (line s.cell) other then own_lines log other else suc (own_lines log other)
+  -- for each line that the log touches the remainder by 64 is marked; so a line whose remainder is not is none of them
+  abbrev pub Marked : List Bool → List (Slot W) → Type 0
+  Marked marks log = (l : ℕ) → touches line l log ≡ true → slice_index_or marks (l % 64) false ≡ true

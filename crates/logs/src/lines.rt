@@ -1,7 +1,7 @@
 // Lines touched by an attempt.
-ghost use Rattle.std.specs.Prelude.{◌≡◌, ◌||◌, ◌≤◌};
-ghost use Rattle.rules.specs.Logs.{touches, lines_touched, lines_touched_with};
-ghost use Rattle.logs.specs.Lines.{own_lines};
+ghost use Rattle.std.specs.Prelude.{◌≡◌, ◌+◌, ◌++◌, not, ◌||◌, ◌≤◌, drop, length};
+ghost use Rattle.rules.specs.Logs.{touches, lines_of, distinct_count, lines_touched, lines_touched_with};
+ghost use Rattle.logs.specs.Lines.{Marked};
 
 use crate::log::Log;
 use parts::{Board, Word};
@@ -19,31 +19,77 @@ fn either_touches<W: Word, B: Board>(
     one.touches(board, line) || other.touches(board, line)
 }
 
-// How many different lines of the log the other does not touch.
-fn own_lines<W: Word, B: Board>(board: &B, log: &Log<'_, W>, other: &Log<'_, W>) -> u16
-    ensures count { result ≡ own_lines (B.Board.line board.now) log.now.slots.now other.now.slots.now }
-    ensures bound { result ≤ 255 }
+// Whether the line is on neither of two logs, the first from a place on. A line whose remainder by 64 is not marked needs no
+// search.
+fn is_new<W: Word, B: Board>(
+    board: &B,
+    line: u32,
+    marks: &[bool; 64],
+    log: &Log<'_, W>,
+    from: usize,
+    other: &Log<'_, W>,
+) -> bool
+    requires { Marked (B.Board.line board.now) marks.now (drop from log.now.slots.now ++ other.now.slots.now) }
+    ensures { result
+        ≡ not (touches (B.Board.line board.now) line (drop from log.now.slots.now) || touches (B.Board.line board.now) line other.now.slots.now) }
 {
-    let mut seen = 0;
-    let mut count = 0;
-    for slot in log.slots {
-        seen += 1;
-        let later = log.part(seen, log.len());
-        if !either_touches(board, board.line(slot.cell), &later, other) {
+    if !marks[(line % 64) as usize] {
+        return true;
+    }
+    !either_touches(board, line, &log.part(from, log.len()), other)
+}
+
+// Counts the lines of a log beside those of another, of which there are `count`, and marks them.
+fn count_beside<W: Word, B: Board>(
+    board: &B,
+    log: &Log<'_, W>,
+    other: &Log<'_, W>,
+    count: u16,
+    marks: &mut [bool; 64],
+) -> u16
+    requires counted { count ≡ distinct_count (lines_of (B.Board.line board.now) other.now.slots.now) }
+    requires marked { Marked (B.Board.line board.now) marks.old other.now.slots.now }
+    requires few { count ≤ 255 }
+    ensures count { result ≡ distinct_count (lines_of (B.Board.line board.now) (log.now.slots.now ++ other.now.slots.now)) }
+    ensures marked { Marked (B.Board.line board.now) marks.new (log.now.slots.now ++ other.now.slots.now) }
+    ensures bound { result ≤ count + length log.now.slots.now }
+{
+    let mut count = count;
+    let mut left = log.len();
+    while left > 0 {
+        let line = board.line(log.slots[left - 1].cell);
+        if is_new(board, line, marks, log, left, other) {
             count += 1;
         }
+        marks[(line % 64) as usize] = true;
+        left -= 1;
     }
     count
 }
 
+// The number of different lines among the cells of both logs, all of them marked.
+fn count_lines<W: Word, B: Board>(
+    board: &B,
+    reads: &Log<'_, W>,
+    writes: &Log<'_, W>,
+    marks: &mut [bool; 64],
+) -> u16
+    ensures count { result ≡ lines_touched (B.Board.line board.now) reads.now.slots.now writes.now.slots.now }
+    ensures marked { Marked (B.Board.line board.now) marks.new (reads.now.slots.now ++ writes.now.slots.now) }
+    ensures bound { result ≤ 510 }
+{
+    let none = writes.part(0, 0);
+    let count = count_beside(board, writes, &none, 0, marks);
+    count_beside(board, reads, writes, count, marks)
+}
+
 // The number of different lines among the cells of both logs.
-#[tactic(auto, using(crate::proofs::Counted::lines_counted))]
 pub fn lines_touched<W: Word, B: Board>(board: &B, reads: &Log<'_, W>, writes: &Log<'_, W>) -> u16
     ensures count { result ≡ lines_touched (B.Board.line board.now) reads.now.slots.now writes.now.slots.now }
     ensures bound { result ≤ 510 }
 {
-    let none = writes.part(0, 0);
-    own_lines(board, reads, writes) + own_lines(board, writes, &none)
+    let mut marks = [false; 64];
+    count_lines(board, reads, writes, &mut marks)
 }
 
 // The same with one cell more, as a read of it would touch it.
@@ -56,10 +102,11 @@ pub fn lines_touched_with<W: Word, B: Board>(
 ) -> u16
     ensures { result ≡ lines_touched_with (B.Board.line board.now) cell reads.now.slots.now writes.now.slots.now }
 {
-    let lines = lines_touched(board, reads, writes);
-    if either_touches(board, board.line(cell), reads, writes) {
-        lines
-    } else {
+    let mut marks = [false; 64];
+    let lines = count_lines(board, reads, writes, &mut marks);
+    if is_new(board, board.line(cell), &marks, reads, 0, writes) {
         lines + 1
+    } else {
+        lines
     }
 }

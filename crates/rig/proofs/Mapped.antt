@@ -2,7 +2,7 @@
 use Rattle.std.proofs.Common.{◌≡◌, ℕ, zero, suc, ◌+◌, ◌<◌, ◌≤◌, List, [], ◌∷◌, ◌++◌, length, map, take, drop, set, get_or, refl, ap, ◌∙◌, sym, subst, arith, All}
 use Rattle.std.proofs.lemmas.List.Elements.{All-nil, All-cons, All-head, All-tail}
 use Rattle.std.proofs.Math.ListN.{drop_of_length-le}
-use Rattle.std.proofs.lemmas.List.{take_all, append-nil}
+use Rattle.std.proofs.lemmas.List.{take_all, append-nil, set-get_or}
 use Rattle.rules.specs.Bench.{map_at}
 
 module _ {X : Type 0} where
@@ -35,6 +35,10 @@ module _ {X : Type 0} where
       let more : suc k ≡ k + 1 = omega arith in
       ap (set ys k) (q ∙ ap (f k) was) ∙ ap (λ zs. set zs k (f k (get_or xs k d))) e ∙ one f 0 k k xs d lt (omega arith)
       ∙ ap (λ n. mapped_to f n xs) more
+
+  -- a place that the map leaves as it is need not be written
+  pub mapped_same : (f : ℕ → X → X) (k : ℕ) (xs ys : List X) (d : X) → k < length xs → ys ≡ mapped_to f k xs → get_or ys k d ≡ f k (get_or ys k d) → ys ≡ mapped_to f (k + 1) xs
+  mapped_same f k xs ys d lt e q = sym (set-get_or ys k d) ∙ mapped_more f k xs ys d (get_or ys k d) lt e q
 
   pub mapped_all : (f : ℕ → X → X) (k : ℕ) (xs ys : List X) → length xs ≤ k → ys ≡ mapped_to f k xs → ys ≡ map_at f 0 xs
   mapped_all f k xs ys le e = e ∙ whole

@@ -1,10 +1,12 @@
 // What an access of one head does to the others.
-ghost use Rattle.std.specs.Prelude.{◌≡◌, ℕ, ◌++◌, ◌∷◌, [], Bool, List, map, length, All};
+ghost use Rattle.std.specs.Prelude.{◌≡◌, ℕ, ◌++◌, ◌∷◌, [], Bool, not, ◌&&◌, ◌==◌, List, map, length, All};
 ghost use Rattle.rules.specs.declared.types.Head.{Head as HeadRecord};
 ghost use Rattle.rules.specs.declared.types.Slot.{Slot as SlotRecord};
 ghost use Rattle.rules.specs.declared.types.Table.{Table as TableRecord};
 ghost use Rattle.rules.specs.Bench.{hit_by_loads, hit_by_store, bench, map_at, abort_if_hit, lock_out};
 ghost use Rattle.rules.specs.Bounds.{HeadBounds};
+ghost use Rattle.rules.specs.Heads.{is_hardware};
+ghost use Rattle.rules.specs.Logs.{log_of};
 ghost use Rattle.rig.specs.Accesses.{cells_of};
 
 use crate::heads::{abort, is_hardware};
@@ -57,31 +59,25 @@ impl<W: Word> Access<W> for Store {
     }
 }
 
-// The head `other` after an access of the head `me`: in hardware it aborts if its logs are hit.
-fn after_access<A: Access<W>, B: Board, W: Word>(
-    head: Head,
+// Whether an access of the head `me` makes the head `other` abort: in hardware it does, if its logs are hit.
+fn is_hit<A: Access<W>, B: Board, W: Word>(
+    head: &Head,
     other: u32,
     me: u32,
     board: &B,
     access: &A,
     reads: &[Slot<W>],
     writes: &[Slot<W>],
-) -> Head
-    requires { HeadBounds head }
-    ensures { (t : TableRecord) (cells : List W) →
-        result
-        ≡ abort_if_hit (bench t cells reads.now writes.now) me (A.Access.hits access.now (B.Board.line board.now)) other head }
+) -> bool
+    ensures { result
+        ≡ (not (other == me) && (is_hardware head.now.state && A.Access.hits access.now (B.Board.line board.now) (log_of other head.now.read_count reads.now) (log_of other head.now.write_count writes.now))) }
 {
-    if other == me || !is_hardware(head) {
-        return head;
+    if other == me || !is_hardware(*head) {
+        return false;
     }
     let reads = Log::of_head(reads, other, head.read_count);
     let writes = Log::of_head(writes, other, head.write_count);
-    if access.hits(board, &reads, &writes) {
-        abort(head, Cause::Conflict)
-    } else {
-        head
-    }
+    access.hits(board, &reads, &writes)
 }
 
 // Every other head in hardware whose logs the access hits aborts by conflict.
@@ -101,7 +97,9 @@ pub(crate) fn abort_hit<A: Access<W>, B: Board, W: Word>(
 {
     for k in 0..8 {
         let at = k as usize;
-        heads[at] = after_access(heads[at], k, me, board, access, reads, writes);
+        if is_hit(&heads[at], k, me, board, access, reads, writes) {
+            heads[at] = abort(heads[at], Cause::Conflict);
+        }
     }
 }
 

@@ -1,4 +1,4 @@
-use Rattle.std.proofs.Common.{subst, sym, All, not, ◌&&◌, eqb, [], length, ◌<◌, arith}
+use Rattle.std.proofs.Common.{subst, sym, ap, ◌∙◌, All, Bool, not, ◌&&◌, eqb, cond, [], length, get_or, ◌<◌, arith}
 use Rattle.rules.specs.Heads.{new_head}
 use Rattle.rules.specs.Bench.{bench, abort_if_hit}
 use Rattle.rules.specs.Bounds.{HeadBounds}
@@ -8,18 +8,28 @@ use Rattle.rules.specs.Heads.{abort, is_hardware}
 use Rattle.rules.specs.Logs.{log_of}
 use Rattle.rules.proofs.HeadBounds.{abort-bounds}
 use Rattle.rules.specs.Calls.{new_table}
-use Rattle.rig.proofs.Mapped.{mapped_keeps, mapped_holds, mapped_more, mapped_all}
+use Rattle.rig.proofs.Mapped.{mapped_keeps, mapped_holds, mapped_more, mapped_same, mapped_all}
+use Rattle.rig.proofs.sweeps.abort_hit.Goals.{then-is_hit, else-is_hit}
 use Rattle.rig.proofs.sweeps.abort_hit.Goals as goal
 
-pub after_access-requires : goal.after_access-requires
-after_access-requires g c =
+pub abort-requires : goal.abort-requires
+abort-requires g c =
     let near : c.loop-k.k < length c.args.heads.now = omega arith in
     mapped_holds HeadBounds _ c.loop-k.k c.args.heads.now c.loop-k.heads new_head c.requires near (c.loop-k.invariant (new_table 0 0) [])
 
 pub loop-k-preserved : goal.loop-k-preserved
 loop-k-preserved g c t cells =
     let near : c.loop-k.k < length c.args.heads.now = omega arith in
-    mapped_more _ c.loop-k.k c.args.heads.now c.loop-k.heads new_head c.after_access.result near (c.loop-k.invariant t cells) (c.after_access.ensures t cells)
+    let x = get_or c.loop-k.heads c.loop-k.k new_head in
+    let told = λ (b : Bool). cond b (abort Conflict x) x in
+    elim c.if-is_hit.branch [
+    | then-is_hit w ↦
+      w.heads-is ∙ mapped_more _ c.loop-k.k c.args.heads.now c.loop-k.heads new_head w.abort.result near (c.loop-k.invariant t cells)
+      (w.abort.ensures ∙ ap told (sym w.if-is_hit.true ∙ c.is_hit.ensures))
+    | else-is_hit w ↦
+      w.heads-is ∙ mapped_same _ c.loop-k.k c.args.heads.now c.loop-k.heads new_head near (c.loop-k.invariant t cells)
+      (ap told (sym w.if-is_hit.false ∙ c.is_hit.ensures))
+    ]
 
 pub returns-clause-heads : goal.returns-clause-heads
 returns-clause-heads g c t cells = mapped_all _ c.loop-k.k c.args.heads.now c.loop-k.heads (omega arith) (c.loop-k.invariant t cells)
