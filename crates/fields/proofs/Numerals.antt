@@ -1,22 +1,29 @@
 -- Digits and the numerals of numbers.
-use Rattle.std.specs.Borrow.{Bor}
 use Rattle.std.specs.Option.{SomeIff}
 use Rattle.std.specs.Result.{OkIff, result_ok}
-use Rattle.std.specs.Str.Parse.{digits_value, ParsesUnsigned}
-use Rattle.std.proofs.lemmas.Str.{IsUtf8-from_ascii}
-use Rattle.std.proofs.Common.{◌≡◌, ℕ, suc, ◌-◌, ◌^◌, ◌<◌, ◌≤◌, true, List, [], ◌∷◌, length, get_or, Result, Ok, Err, ◌≢◌, FitsSigned, MatchResult, subst, w32, ℤ, pos, negsuc, Some, None, decimal, Option, sym, refl, ap, ◌∙◌, ⊎_elim, arith}
-use Rattle.std.specs.Str.{all_ascii_digits, IsUtf8}
+use Rattle.std.specs.Char.{digit_value}
+use Rattle.std.specs.Str.Parse.{digits_value, digits_value_after}
+use Rattle.std.proofs.Math.Seq.{drop-cons}
+use Rattle.std.proofs.lemmas.Str.{digit_value_digit}
+use Rattle.std.proofs.Common.{◌≡◌, ℕ, suc, ◌+◌, ◌*◌, ◌-◌, ◌^◌, ◌<◌, ◌≤◌, true, List, [], ◌∷◌, length, get_or, drop, Result, Ok, Err, ◌≢◌, FitsSigned, w32, ℤ, pos, negsuc, Some, None, decimal, Option, sym, refl, ap, ◌∙◌, ⊎_elim, arith}
+use Rattle.std.specs.Str.{all_ascii_digits}
 use Rattle.std.proofs.lemmas.Bool.{leb-true, and_parts, cases_eq}
-use Rattle.std.proofs.lemmas.Str.Parse.{IsNumeralModel, numerals_by_value, tells_all_ascii_digits, parse_plain}
-use Rattle.std.proofs.lemmas.Fmt.{decimal-digits_value, digits_decimal, digits_value-decimal, decimal_nonempty, first_decimal, decimal_digit, decimal_injective, IsAscii-decimal}
+use Rattle.std.proofs.lemmas.Str.Parse.{IsNumeralModel, numerals_by_value, tells_all_ascii_digits}
+use Rattle.std.proofs.lemmas.Fmt.{decimal-digits_value, digits_decimal, digits_value-decimal, decimal_nonempty, first_decimal, decimal_digit, decimal_injective}
 use Rattle.fields.specs.Numbers.{Reads, Number, Amount}
 
 pub own : IsNumeralModel (λ ds. all_ascii_digits ds ≡ true) (digits_value 10)
 own = numerals_by_value _ tells_all_ascii_digits
 
--- a numeral is its number's one text
-written : (bs : List ℕ) (n : ℕ) → all_ascii_digits bs ≡ true → 0 < length bs → (get_or bs 0 0 ≡ 48 → length bs ≡ 1) → digits_value 10 bs ≡ n → n ≤ 4294967295 → bs ≡ decimal n
-written bs n d some lead e small = let l : digits_value 10 bs < 2 ^ 64 = omega arith in sym (decimal-digits_value own bs d some lead l) ∙ ap decimal e
+-- more digits make no number smaller
+grows : (n : ℕ) (ds : List ℕ) → n ≤ digits_value_after 10 n ds
+grows n [] = omega arith
+grows n (d ∷ ds) = omega (arith, grows (n * 10 + digit_value d) ds)
+
+pub grown_by : (n i : ℕ) (bs : List ℕ) → i < length bs → 48 ≤ get_or bs i 0 → get_or bs i 0 ≤ 57 → 10 * n + (get_or bs i 0 - 48) ≤ digits_value_after 10 n (drop i bs)
+grown_by n i bs l low high =
+    let d = digit_value_digit (get_or bs i 0) (low, high) in
+    rw (drop-cons bs i 0 l) (omega (arith, d, grows (n * 10 + digit_value (get_or bs i 0)) (drop (suc i) bs)))
 
 pub digits_of : (bs : List ℕ) (n : ℕ) → Number bs n → (all_ascii_digits bs ≡ true) × (digits_value 10 bs ≡ n)
 digits_of bs n (e, small) = let l : n < 2 ^ 64 = omega arith in (ap all_ascii_digits e ∙ digits_decimal own n l, ap (digits_value 10) e ∙ digits_value-decimal own n l)
@@ -37,30 +44,16 @@ lead-of bs n (e, small) z =
     (cases_eq n 0)
 
 -- the answers of `number_of`, way by way
-pub none-plus : (bs : List ℕ) → get_or bs 0 0 ≡ 43 → Reads (Number bs) None
-none-plus bs h n s = omega (arith, first-digit bs n s)
+pub none-empty : (bs : List ℕ) → length bs ≡ 0 → Reads (Number bs) None
+none-empty bs e n s = omega (arith, some_of bs n s)
 
 pub none-lead : (bs : List ℕ) → get_or bs 0 0 ≡ 48 → 2 ≤ length bs → Reads (Number bs) None
 none-lead bs h l n s = omega (arith, lead-of bs n s h)
 
-pub none-utf8 : {A B : Type 0} (V : A → Type 0) (F : B → Type 0) (bs : List ℕ) (t : Result A B) (o : Option A) → MatchResult t V (λ e. (IsUtf8 bs → ⊥) × F e) → o ≡ result_ok t → o ≡ None → Reads (Number bs) None
-none-utf8 V F bs (Ok x) o h k e n s = absurd cc
-none-utf8 V F bs (Err x) o h k e n s = h.0 (subst IsUtf8 (sym s.0) (IsUtf8-from_ascii (decimal n) (IsAscii-decimal n (omega (arith, s.1)))))
-
--- the text that `from_utf8` gives
-pub text-is : {B : Type 0} (F : B → Type 0) (bs : List ℕ) (t : Result (Bor (List ℕ)) B) (o : Option (Bor (List ℕ))) (x : Bor (List ℕ)) → MatchResult t (λ s. (s.now ≡ bs) × IsUtf8 bs) F → o ≡ result_ok t → o ≡ Some x → x.now ≡ bs
-text-is F bs (Ok y) o x h k e = let q : y ≡ x = cc in ap (λ (s : Bor (List ℕ)). s.now) (sym q) ∙ h.0
-text-is F bs (Err y) o x h k e = absurd cc
-
-pub plain : {E : Type 0} (bs t : List ℕ) (r : Result ℕ E) → t ≡ bs → get_or bs 0 0 ≢ 43 → (get_or bs 0 0 ≡ 48 → length bs ≤ 1) → ParsesUnsigned 32 10 t r → Reads (Number bs) (result_ok r)
-plain {E = E} bs t (Ok n) q plus lead h =
-    let p = parse_plain own {E = E} 32 bs (Ok n) (rw q at h) plus in
-    let small : n ≤ 4294967295 = omega (arith, p) in
-    (written bs n p.0.0 p.0.1 (λ z. omega (arith, lead z, p.0.1)) (sym p.1) small, small)
-plain {E = E} bs t (Err e) q plus lead h = λ n s.
-    let p = parse_plain own {E = E} 32 bs (Err e) (rw q at h) plus in
-    let d = digits_of bs n s in
-    p (d.0, some_of bs n s, omega (arith, d.1, s.1))
+-- a numeral is its number's one text
+pub plain : (bs : List ℕ) (r : Option ℕ) → 0 < length bs → (get_or bs 0 0 ≡ 48 → length bs ≤ 1) → SomeIff r ((all_ascii_digits bs ≡ true) × (digits_value 10 bs ≤ 4294967295)) (digits_value 10 bs) → Reads (Number bs) r
+plain bs (Some n) some lead ((d, small), e) = rw e (sym (decimal-digits_value own bs d some (λ z. omega (arith, lead z)) (omega arith)), small)
+plain bs None some lead none = λ n s. let d = digits_of bs n s in none (d.0, omega (arith, d.1, s.1))
 
 -- the answers of `amount_of`, by how the field begins
 

@@ -1,12 +1,13 @@
 // The numbers and amounts that fields write.
-ghost use Rattle.std.specs.Prelude.{◌≢◌, ◌-◌, ◌≤◌, negsuc, SomeIff};
+ghost use Rattle.std.specs.Prelude.{◌≢◌, ◌-◌, ◌≤◌, negsuc, SomeIff, IsTrue};
+ghost use Rattle.std.specs.Str.{all_ascii_digits};
+ghost use Rattle.std.specs.Str.Parse.{digits_value};
 ghost use Rattle.fields.specs.Numbers.{Number, Amount, Reads, FieldRead, Begins};
 ghost use Rattle.faults.specs.declared.types.FieldFault.TheVariants.{BadNumber};
 
 use crate::parts::Part;
 use crate::types::Field;
 use faults::FieldFault;
-use std::str;
 
 // How a field begins.
 fn field_of(bytes: &[u8]) -> Field
@@ -18,15 +19,32 @@ fn field_of(bytes: &[u8]) -> Field
     }
 }
 
+// What the digits write, leading zeros or not; None if another byte is among them, or the value needs over 32 bits.
+// A loop of its own: `parse`, which wants text, costs over twice as much for the one or two digits of most numbers.
+#[tactic(auto, using(crate::proofs::Numerals::grown_by))]
+fn digits_value(bytes: &[u8]) -> Option<u32>
+    ensures { SomeIff result (IsTrue (all_ascii_digits bytes.now) × (digits_value 10 bytes.now ≤ 4294967295))
+        (digits_value 10 bytes.now) }
+{
+    let mut value: u32 = 0;
+    for byte in bytes {
+        value = match byte {
+            b'0'..=b'9' => u32::try_from(10 * u64::from(value) + u64::from(byte - b'0')).ok()?,
+            _ => return None,
+        };
+    }
+    Some(value)
+}
+
 // The number whose numeral the bytes are.
 fn number_of(bytes: &[u8]) -> Option<u32>
     ensures { Reads (Number bytes.now) result }
 {
     match bytes {
-        // `parse` would take a plus sign and leading zeros
-        [b'+', ..] => None,
+        // a numeral has a digit, and no leading zeros
+        [] => None,
         [b'0', _, ..] => None,
-        _ => str::from_utf8(bytes).ok()?.parse().ok(),
+        _ => digits_value(bytes),
     }
 }
 
