@@ -29,11 +29,12 @@ impl fmt::Display for PolicyName {
     }
 }
 
-impl fmt::Display for Letter {
-    ghost output = { λ l. Some (letter_text l) };
-
-    fn fmt<W: fmt::Write>(&self, f: &mut fmt::Formatter<W>) -> fmt::Result {
-        f.write_str(match self {
+impl Letter {
+    // The letter as text.
+    pub fn as_str(self) -> &'static str
+        ensures { result.now ≡ letter_text self }
+    {
+        match self {
             Letter::Open => "o",
             Letter::Read => "r",
             Letter::Write => "w",
@@ -42,7 +43,15 @@ impl fmt::Display for Letter {
             Letter::Jolt => "j",
             Letter::Again => "a",
             Letter::Drop => "d",
-        })
+        }
+    }
+}
+
+impl fmt::Display for Letter {
+    ghost output = { λ l. Some (letter_text l) };
+
+    fn fmt<W: fmt::Write>(&self, f: &mut fmt::Formatter<W>) -> fmt::Result {
+        f.write_str(self.as_str())
     }
 }
 

@@ -3,7 +3,7 @@
 
 use scenario::readback;
 use std::io;
-use std::io::Read;
+use std::io::{Read, Write};
 
 // One byte more than the longest text that is read: with that many, a text is known to be too long.
 const ENOUGH: u64 = 65_537;
@@ -14,7 +14,7 @@ fn run(rt: &HostRuntime) -> io::Result<()> {
     let mut text = Vec::new(heap);
     rt.stdin().take(ENOUGH).read_to_end(&mut text)?;
     let told = readback(heap, &text)?;
-    print!(rt; "{told}")
+    rt.stdout().write_all(told.as_bytes())
 }
 
 // Ends with status 0 whatever comes in: a text that could not be read, or not be told for want of memory, is

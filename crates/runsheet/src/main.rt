@@ -3,7 +3,7 @@
 
 use sheets::run_sheet;
 use std::io;
-use std::io::Read;
+use std::io::{Read, Write};
 
 // One byte more than the longest text that is read: with that many, a text is known to be too long.
 const ENOUGH: u64 = 65_537;
@@ -14,7 +14,7 @@ fn run(rt: &HostRuntime) -> io::Result<()> {
     let mut text = Vec::new(heap);
     rt.stdin().take(ENOUGH).read_to_end(&mut text)?;
     let sheet = run_sheet(heap, &text)?;
-    print!(rt; "{sheet}")
+    rt.stdout().write_all(sheet.as_bytes())
 }
 
 // Ends with status 0 whatever comes in: a text that could not be read, or not be run for want of memory, is

@@ -1,2 +1,3 @@
-pub mod Written
+pub mod Putting
+pub mod Adding
 pub mod Scenarios

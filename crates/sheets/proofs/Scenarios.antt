@@ -1,8 +1,7 @@
 -- A scenario that was read: its parts, its lines, and that its run can begin.
-use Rattle.std.proofs.Common.{◌≡◌, ℕ, ◌<◌, ◌≤◌, IsTrue, rules, All, List, [], ◌∷◌, ◌++◌, map, length, Some, None, Option, Result, IfOk, refl, sym, ap, ◌∙◌, subst, arith}
+use Rattle.std.proofs.Common.{◌≡◌, ℕ, ◌<◌, ◌≤◌, IsTrue, rules, All, List, [], ◌∷◌, ◌++◌, map, length, Some, None, Option, Result, refl, sym, ap, ◌∙◌, subst, arith}
 use Rattle.std.specs.Option.{ForSome}
 use Rattle.std.proofs.lemmas.List.Elements.{All-nil, All-cons}
-use Rattle.std.specs.declared.alloc.AllocError.{AllocError}
 use Rattle.entries.specs.declared.types.RigLine.{RigLine}
 use Rattle.entries.specs.declared.types.Setting.{Setting}
 use Rattle.entries.specs.declared.types.HeadCall.{HeadCall}
@@ -15,10 +14,9 @@ use Rattle.scenario.specs.declared.types.ReadError.{ReadError}
 use Rattle.scenario.specs.Texts.{LinesRead, start, lines_of_text, TextSays, long, empty, lined}
 use Rattle.scenario.specs.Holdings.{in_order, Read}
 use Rattle.rules.specs.Calls.{in_range}
-use Rattle.sheets.specs.declared.types.Sheet.{Sheet}
 use Rattle.sheets.specs.Kits.{kit_named}
 use Rattle.sheets.specs.Starts.{CanBegin, first_bench}
-use Rattle.sheets.specs.Sheets.{held_lines, end_lines, run_lines, settings_in, calls_in, sheet_lines, end_at}
+use Rattle.sheets.specs.Sheets.{end_lines, run_lines, settings_in, calls_in, sheet_lines, end_at}
 
 -- the settings and the calls of a scenario are those that it holds
 
@@ -51,12 +49,8 @@ no-rig-lines [] (k ∷ ks) fault = refl
 no-rig-lines (s ∷ ss) ks fault = refl
 
 module _ (rig : Option RigLine) (ss : List Setting) (ks : List HeadCall) (fault : Option RigFault) where
-  pub lines_on_rig : (r : RigLine) (q : Result Sheet AllocError) → rig ≡ Some r
-      → IfOk q (λ s. held_lines s ≡ run_lines (kit_named r.board r.policy) (first_bench r.heads r.cells ss) ks fault)
-      → IfOk q (λ s. held_lines s ≡ sheet_lines (in_order rig ss ks) fault)
-  lines_on_rig r q is =
-      let P : List (List ℕ) → Type 0 = λ x. IfOk q (λ s. held_lines s ≡ x) in
-      subst P (rig-lines r ss ks fault ∙ ap (λ x. sheet_lines (in_order x ss ks) fault) (sym is))
+  pub lines_on_rig : (r : RigLine) → rig ≡ Some r → run_lines (kit_named r.board r.policy) (first_bench r.heads r.cells ss) ks fault ≡ sheet_lines (in_order rig ss ks) fault
+  lines_on_rig r is = rig-lines r ss ks fault ∙ ap (λ x. sheet_lines (in_order x ss ks) fault) (sym is)
 
   pub lines_without_rig : rig ≡ None → end_lines [] fault ≡ sheet_lines (in_order rig ss ks) fault
   lines_without_rig is = no-rig-lines ss ks fault ∙ ap (λ x. sheet_lines (in_order x ss ks) fault) (sym is)

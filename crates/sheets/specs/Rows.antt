@@ -27,6 +27,9 @@ cell_row_text r = join_with_byte 9 (codes "cell" ∷ decimal r.cell ∷ signed_d
 abbrev pub rows_of : List HeadCall → List (Answer ℤ) → List Row
 rows_of calls answers = map (λ (p : HeadCall × Answer ℤ). record { made = p.0; answer = p.1 }) (zip calls answers)
 
--- each cell by its number, from 0 on
+-- each cell by its number, from n on
+abbrev pub cell_rows_from : ℕ → List ℤ → List CellRow
+cell_rows_from n cells = map (λ (p : ℕ × ℤ). record { cell = p.0; word = p.1 }) (enumerate_from n cells)
+
 abbrev pub cell_rows_of : List ℤ → List CellRow
-cell_rows_of cells = map (λ (p : ℕ × ℤ). record { cell = p.0; word = p.1 }) (enumerate_from 0 cells)
+cell_rows_of cells = cell_rows_from 0 cells

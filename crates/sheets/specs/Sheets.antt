@@ -8,9 +8,6 @@ use Rattle.entries.specs.declared.types.Entry.{Entry}
 use Rattle.entries.specs.declared.types.Entry.TheVariants as entry
 use Rattle.faults.specs.declared.types.RigFault.{RigFault}
 use Rattle.faults.specs.Reports.{report_of, report_text}
-use Rattle.sheets.specs.declared.types.End.{End}
-use Rattle.sheets.specs.declared.types.End.TheVariants as ending
-use Rattle.sheets.specs.declared.types.Sheet.{Sheet}
 use Rattle.rules.specs.Kit.{Kit}
 use Rattle.rules.specs.Bench.{Bench}
 use Rattle.rules.specs.Runs.{answers_of, left_by}
@@ -21,14 +18,6 @@ use Rattle.scenario.specs.Texts.{TextSays}
 use Rattle.sheets.specs.Rows.{row_text, rows_of, cell_row_text, cell_rows_of}
 use Rattle.sheets.specs.Kits.{kit_named}
 use Rattle.sheets.specs.Starts.{made_call, first_bench}
-
--- the lines of a `Sheet`
-abbrev pub held_end : End → List (List ℕ)
-held_end (ending.Cells cells) = map cell_row_text (vec_items cells)
-held_end (ending.Fault report) = report_text report ∷ []
-
-abbrev pub held_lines : Sheet → List (List ℕ)
-held_lines s = map row_text (vec_items s.rows) ++ held_end s.end
 
 -- the lines at the end: the cells where there is no fault, else the fault alone
 abbrev pub end_lines : List ℤ → Option RigFault → List (List ℕ)

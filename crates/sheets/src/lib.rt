@@ -1,12 +1,14 @@
 // The run sheet of a scenario: each call with its answer, and then the cells that are left.
 #![tactic(auto)]
 
-mod ends;
+mod line;
 mod printed;
 mod rigs;
 mod rows;
 mod starts;
+mod texts;
 mod types;
+mod written;
 
 pub use printed::run_sheet;
 pub use types::{CellRow, Row};

@@ -28,6 +28,5 @@ pub fn run_sheet(heap: Global, text: &[u8]) -> Result<String, AllocError>
 {
     let Reading { scenario, end } = read(heap, text);
     let fault = fault_at(end)?;
-    let sheet = sheet_of(heap, &scenario, fault)?;
-    format!(in heap; "{sheet}")
+    sheet_of(heap, &scenario, fault)
 }

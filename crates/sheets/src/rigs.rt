@@ -1,15 +1,15 @@
 // The run of a scenario on the rig that its rig line names. Each pair of a board and a policy is compiled by itself.
-ghost use Rattle.std.specs.Prelude.{◌≡◌, IfOk, vec_items};
+ghost use Rattle.std.specs.Prelude.{◌≡◌, IfOk, vec_items, string_bytes};
 ghost use Rattle.std.specs.Option.{ForSome};
+ghost use Rattle.fields.specs.Parts.{ended};
 ghost use Rattle.rules.specs.Kit.{kit_of};
 ghost use Rattle.scenario.specs.Holdings.{entries_of};
 ghost use Rattle.sheets.specs.Kits.{kit_on, kit_named};
 ghost use Rattle.sheets.specs.Starts.{CanBegin};
-ghost use Rattle.sheets.specs.Sheets.{held_lines, held_run, sheet_lines};
+ghost use Rattle.sheets.specs.Sheets.{held_run, sheet_lines};
 
-use crate::ends::rows_of;
 use crate::starts::{cells_before, empty_slots, made_calls};
-use crate::types::{End, Sheet};
+use crate::texts::sheet_text;
 use entries::{BoardName, PolicyName, RigLine};
 use faults::RigFault;
 use parts::{Board, Careful, LinesBoard, Margin, Plain, Policy, StoresBoard};
@@ -23,10 +23,11 @@ fn sheet_with<B: Board + Drop, P: Policy + Drop>(
     set_up: SetUp<B, P>,
     scenario: &Scenario,
     fault: Option<RigFault>,
-) -> Result<Sheet, AllocError>
+) -> Result<String, AllocError>
     requires { CanBegin set_up.heads set_up.cells (vec_items scenario.now.settings) }
     ensures { let kit = kit_of ⟦<i32 as parts::Word>⟧ B.Board P.Policy set_up.board set_up.policy in
-        IfOk result (λ s. held_lines s ≡ held_run kit set_up.heads set_up.cells scenario.now fault) }
+        IfOk result (λ t. string_bytes t
+        ≡ ended 10 (held_run kit set_up.heads set_up.cells scenario.now fault)) }
 {
     let calls = made_calls(heap, &scenario.calls)?;
     let mut cells = cells_before(heap, set_up.cells, &scenario.settings)?;
@@ -38,9 +39,7 @@ fn sheet_with<B: Board + Drop, P: Policy + Drop>(
         // a text with such a rig is faulty
         Err(RunError::NotSetUp(_)) => unreachable!(),
     };
-    let rows = rows_of(heap, &scenario.calls, &run.answers)?;
-    let end = End::new(heap, &cells, fault)?;
-    Ok(Sheet { rows, end })
+    sheet_text(heap, &scenario.calls, &run.answers, &cells, fault)
 }
 
 // The sheet of a scenario on this board, under the policy that its rig line names.
@@ -50,10 +49,11 @@ fn sheet_on<B: Board + Drop>(
     board: B,
     scenario: &Scenario,
     fault: Option<RigFault>,
-) -> Result<Sheet, AllocError>
+) -> Result<String, AllocError>
     requires { CanBegin rig.heads rig.cells (vec_items scenario.now.settings) }
     ensures { let kit = kit_on (B.line board) (B.fits board) rig.policy in
-        IfOk result (λ s. held_lines s ≡ held_run kit rig.heads rig.cells scenario.now fault) }
+        IfOk result (λ t. string_bytes t
+        ≡ ended 10 (held_run kit rig.heads rig.cells scenario.now fault)) }
 {
     let RigLine {
         heads,
@@ -89,10 +89,11 @@ fn sheet_of_rig(
     rig: RigLine,
     scenario: &Scenario,
     fault: Option<RigFault>,
-) -> Result<Sheet, AllocError>
+) -> Result<String, AllocError>
     requires { CanBegin rig.heads rig.cells (vec_items scenario.now.settings) }
     ensures { let kit = kit_named rig.board rig.policy in
-        IfOk result (λ s. held_lines s ≡ held_run kit rig.heads rig.cells scenario.now fault) }
+        IfOk result (λ t. string_bytes t
+        ≡ ended 10 (held_run kit rig.heads rig.cells scenario.now fault)) }
 {
     match rig.board {
         BoardName::Stores => {
@@ -112,19 +113,13 @@ pub(crate) fn sheet_of(
     heap: Global,
     scenario: &Scenario,
     fault: Option<RigFault>,
-) -> Result<Sheet, AllocError>
+) -> Result<String, AllocError>
     requires { ForSome scenario.now.rig
         (λ r. CanBegin r.heads r.cells (vec_items scenario.now.settings)) }
-    ensures { IfOk result (λ s. held_lines s ≡ sheet_lines (entries_of scenario.now) fault) }
+    ensures { IfOk result (λ t. string_bytes t ≡ ended 10 (sheet_lines (entries_of scenario.now) fault)) }
 {
     match scenario.rig {
         Some(rig) => sheet_of_rig(heap, rig, scenario, fault),
-        None => {
-            let end = End::new(heap, &[], fault)?;
-            Ok(Sheet {
-                rows: Vec::new(heap),
-                end,
-            })
-        }
+        None => sheet_text(heap, &[], &[], &[], fault),
     }
 }

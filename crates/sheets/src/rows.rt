@@ -1,12 +1,16 @@
 // The lines of a run sheet as they are printed.
-ghost use Rattle.std.specs.Prelude.{◌≡◌, Some, pos};
+ghost use Rattle.std.specs.Prelude.{◌≡◌, ◌≤◌, ◌∷◌, [], ◌++◌, Some, OnOk, pos, length};
+ghost use Rattle.fields.specs.Parts.{ended};
 ghost use Rattle.rules.specs.Answers.{granted_value, answer_number, answer_value};
 ghost use Rattle.sheets.specs.Rows.{row_text, cell_row_text};
 
+use crate::line::Line;
 use crate::types::{CellRow, Row};
+use crate::written::Lines;
 use entries::{HeadCall, Letter};
 use rules::{Closing, Granted, Refusal};
 use runs::Answer;
+use std::alloc::AllocError;
 use std::fmt;
 
 // The number that an answer returns.
@@ -45,20 +49,46 @@ fn answer_value(answer: Answer<i32>) -> Option<i64>
     }
 }
 
+// Writes a row before what is in the line, which is a newline at most.
+fn put_row(line: &mut Line, row: Row)
+    requires { length line.old ≤ 1 }
+    ensures { line.new ≡ row_text row ++ line.old }
+{
+    let Row {
+        made: HeadCall { head, call },
+        answer,
+    } = row;
+    match answer_value(answer) {
+        Some(value) => line.put_signed(value),
+        None => line.put("-"),
+    }
+    line.put("\t");
+    line.put_number(u64::from(answer_number(answer)));
+    line.put("\t");
+    line.put_number(u64::from(head));
+    line.put("\t");
+    line.put(Letter::from(call).as_str());
+}
+
+// Writes a cell before what is in the line, likewise.
+fn put_cell_row(line: &mut Line, row: CellRow)
+    requires { length line.old ≤ 1 }
+    ensures { line.new ≡ cell_row_text row ++ line.old }
+{
+    let CellRow { cell, word } = row;
+    line.put_signed(i64::from(word));
+    line.put("\t");
+    line.put_number(cell as u64);
+    line.put("cell\t");
+}
+
 impl fmt::Display for Row {
     ghost output = { λ r. Some (row_text r) };
 
     fn fmt<W: fmt::Write>(&self, f: &mut fmt::Formatter<W>) -> fmt::Result {
-        let Row {
-            made: HeadCall { head, call },
-            answer,
-        } = *self;
-        let letter = Letter::from(call);
-        let number = answer_number(answer);
-        match answer_value(answer) {
-            Some(value) => write!(f, "{letter}\t{head}\t{number}\t{value}"),
-            None => write!(f, "{letter}\t{head}\t{number}\t-"),
-        }
+        let mut line = Line::new();
+        put_row(&mut line, *self);
+        f.write_str(line.as_str())
     }
 }
 
@@ -66,7 +96,30 @@ impl fmt::Display for CellRow {
     ghost output = { λ r. Some (cell_row_text r) };
 
     fn fmt<W: fmt::Write>(&self, f: &mut fmt::Formatter<W>) -> fmt::Result {
-        let CellRow { cell, word } = *self;
-        write!(f, "cell\t{cell}\t{word}")
+        let mut line = Line::new();
+        put_cell_row(&mut line, *self);
+        f.write_str(line.as_str())
+    }
+}
+
+impl Lines {
+    // Adds the line of a call.
+    pub(crate) fn push_row(&mut self, row: Row) -> Result<(), AllocError>
+        ensures { OnOk result (self.new ≡ self.old ++ ended 10 (row_text row ∷ [])) }
+    {
+        let mut line = Line::new();
+        line.put("\n");
+        put_row(&mut line, row);
+        self.push(&line)
+    }
+
+    // Adds the line of a cell.
+    pub(crate) fn push_cell_row(&mut self, row: CellRow) -> Result<(), AllocError>
+        ensures { OnOk result (self.new ≡ self.old ++ ended 10 (cell_row_text row ∷ [])) }
+    {
+        let mut line = Line::new();
+        line.put("\n");
+        put_cell_row(&mut line, row);
+        self.push(&line)
     }
 }

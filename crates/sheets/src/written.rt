@@ -1,0 +1,48 @@
+// The lines of a run sheet, one after another.
+ghost use Rattle.std.specs.Prelude.{◌≡◌, [], ◌++◌, OnOk, string_bytes};
+
+use crate::line::Line;
+use std::alloc::{AllocError, Global};
+use std::marker::Model;
+
+// Bytes, and not a `String`, since that would read each line again as it comes, to see that it is text.
+#[derive(Drop)]
+pub(crate) struct Lines {
+    bytes: Vec<u8>,
+}
+
+impl Model for Lines {
+    ghost use Rattle.std.specs.Prelude.{ℕ, List};
+    ghost use Rattle.std.specs.Str.{IsUtf8};
+
+    ghost Value = { List ℕ };
+
+    ghost view = { λ l. l.bytes.items };
+
+    ghost invariant = { λ l. IsUtf8 l.bytes.items };
+}
+
+impl Lines {
+    pub(crate) fn new(heap: Global) -> Lines
+        ensures { result ≡ [] }
+    {
+        Lines {
+            bytes: Vec::new(heap),
+        }
+    }
+
+    pub(crate) fn push(&mut self, line: &Line) -> Result<(), AllocError>
+        ensures { OnOk result (self.new ≡ self.old ++ line.now) }
+    {
+        self.bytes.extend_from_slice(line.as_bytes())
+    }
+
+    pub(crate) fn into_text(self) -> String
+        ensures { string_bytes result ≡ self }
+    {
+        match String::from_utf8(self.bytes) {
+            Ok(text) => text,
+            Err(_) => unreachable!(),
+        }
+    }
+}
