@@ -2,3 +2,4 @@ pub mod Onward
 pub mod Once
 pub mod Rendered
 pub mod Whole
+pub mod Passed

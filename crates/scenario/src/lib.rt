@@ -4,10 +4,12 @@
 mod errors;
 mod printed;
 mod render;
+mod streams;
 mod texts;
 mod types;
 
 pub use printed::readback;
 pub use render::write_lines;
+pub use streams::{print_readback, read_text};
 pub use texts::{check, read};
 pub use types::{ReadError, Reading, Scenario};

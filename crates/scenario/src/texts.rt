@@ -73,7 +73,7 @@ impl Iterator for Entries<'_> {
 }
 
 // The longest text that is read, in bytes.
-const LONGEST: usize = 65_536;
+pub(crate) const LONGEST: usize = 65_536;
 
 // That the text has a line to begin with, and is not too long.
 fn sized(text: &[u8]) -> Result<(), RigFault>

@@ -10,5 +10,5 @@ mod texts;
 mod types;
 mod written;
 
-pub use printed::run_sheet;
+pub use printed::{print_run_sheet, run_sheet};
 pub use types::{CellRow, Row};

@@ -1,12 +1,15 @@
 // What is printed of a text that is run.
-ghost use Rattle.std.specs.Prelude.{◌≡◌, IfOk, IfErr, Err, string_bytes};
+ghost use Rattle.std.specs.Prelude.{◌≡◌, IfOk, IfErr, OnOk, Err, string_bytes};
 ghost use Rattle.scenario.specs.declared.types.ReadError.TheVariants as error;
+ghost use Rattle.scenario.specs.Streams.{Printed};
 ghost use Rattle.sheets.specs.Sheets.{end_at, SheetOf, SheetOnce};
 
 use crate::rigs::sheet_of;
 use faults::RigFault;
-use scenario::{ReadError, Reading, read};
+use scenario::{ReadError, Reading, read, read_text};
 use std::alloc::{AllocError, Global};
+use std::io;
+use std::io::{Read, Write};
 
 // The fault at which a reading ended, if it ended at one; want of memory is no fault of the text.
 fn fault_at(end: Result<(), ReadError>) -> Result<Option<RigFault>, AllocError>
@@ -20,8 +23,8 @@ fn fault_at(end: Result<(), ReadError>) -> Result<Option<RigFault>, AllocError>
     }
 }
 
-// What the program `runsheet` prints of a text: its calls up to the first fault, each with the answer that the rule
-// book gives, and then the cells that are left, or the fault.
+// The run sheet of a text: its calls up to the first fault, each with the answer that the rule book gives, and then the
+// cells that are left, or the fault.
 pub fn run_sheet(heap: Global, text: &[u8]) -> Result<String, AllocError>
     ensures says { IfOk result (λ out. SheetOf text.now (string_bytes out)) }
     ensures once { SheetOnce }
@@ -29,4 +32,17 @@ pub fn run_sheet(heap: Global, text: &[u8]) -> Result<String, AllocError>
     let Reading { scenario, end } = read(heap, text);
     let fault = fault_at(end)?;
     sheet_of(heap, &scenario, fault)
+}
+
+// Reads a text, and writes its run sheet: the whole of the program `runsheet` but for where it reads and writes.
+pub fn print_run_sheet<R: Read + Drop, W: Write>(
+    heap: Global,
+    input: R,
+    output: &mut W,
+) -> io::Result<()>
+    ensures { OnOk result (Printed SheetOf (R.remaining input) (W.contents output.old) (W.contents output.new)) }
+{
+    let text = read_text(heap, input)?;
+    let sheet = run_sheet(heap, &text)?;
+    output.write_all(sheet.as_bytes())
 }
