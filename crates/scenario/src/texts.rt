@@ -127,6 +127,8 @@ fn take_text(scenario: &mut Scenario, text: &[u8]) -> Result<(), ReadError>
     ensures { Read text.now (entries_of scenario.new) result }
 {
     sized(text)?;
+    // no call takes fewer bytes
+    scenario.calls.reserve(text.len() / 4)?;
     take_lines(scenario, text)
 }
 

@@ -50,7 +50,9 @@ pub(crate) fn sheet_text(
     ensures { IfOk result (λ t. string_bytes t
         ≡ ended 10 (map row_text (rows_of calls.now answers.now) ++ end_lines cells.now fault)) }
 {
-    let mut lines = Lines::new(heap);
+    // few lines are longer
+    let room = (calls.len() + cells.len()).saturating_mul(16);
+    let mut lines = Lines::with_room(heap, room)?;
     push_rows(&mut lines, calls, answers)?;
     match fault {
         None => {

@@ -1,5 +1,5 @@
 // The lines of a run sheet, one after another.
-ghost use Rattle.std.specs.Prelude.{◌≡◌, [], ◌++◌, OnOk, string_bytes};
+ghost use Rattle.std.specs.Prelude.{◌≡◌, [], ◌++◌, IfOk, OnOk, string_bytes};
 
 use crate::line::Line;
 use std::alloc::{AllocError, Global};
@@ -23,12 +23,12 @@ impl Model for Lines {
 }
 
 impl Lines {
-    pub(crate) fn new(heap: Global) -> Lines
-        ensures { result ≡ [] }
+    // No lines, and room for so many bytes.
+    pub(crate) fn with_room(heap: Global, bytes: usize) -> Result<Lines, AllocError>
+        ensures { IfOk result (λ l. l ≡ []) }
     {
-        Lines {
-            bytes: Vec::new(heap),
-        }
+        let bytes = Vec::with_capacity(heap, bytes)?;
+        Ok(Lines { bytes })
     }
 
     pub(crate) fn push(&mut self, line: &Line) -> Result<(), AllocError>
