@@ -3,9 +3,7 @@ ghost use Rattle.std.specs.Prelude.{◌≡◌, IfOk, true};
 ghost use Rattle.rules.specs.Bench.{bench};
 ghost use Rattle.rules.specs.Calls.{new_table};
 ghost use Rattle.rules.specs.Refusals.{lengths_match};
-ghost use Rattle.handles.specs.Handles.{WrittenBack};
 
-use handles::{Refused, WritingBack};
 use parts::{LinesBoard, Margin, Plain};
 use rig::Rig;
 use rules::{Refusal, Slot};
@@ -32,17 +30,5 @@ impl Bench {
             reads: [slot; 64],
             writes: [slot; 64],
         })
-    }
-
-    // Pushes until no slot is left. With lists of the right lengths even a refusal leaves no handle to be forgotten.
-    pub(crate) fn finish(&mut self, handle: WritingBack) -> Result<u8, Refusal>
-        ensures { let before = bench self.old.rig.table self.old.cells self.old.reads self.old.writes in
-            let after = bench self.new.rig.table self.new.cells self.new.reads self.new.writes in
-            IfOk result (λ _. WrittenBack before after handle.head) }
-    {
-        match handle.push_all(&mut self.rig, &mut self.cells, &self.reads, &self.writes) {
-            Ok(pushes) => Ok(pushes),
-            Err(Refused { refusal, handle: _ }) => Err(refusal),
-        }
     }
 }

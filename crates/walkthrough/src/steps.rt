@@ -1,12 +1,20 @@
 // Single steps, each printed. The handle that a step needs is moved into it, or lent, as the call by handle wants it.
-ghost use Rattle.std.specs.Prelude.{◌≡◌, IfOk};
+ghost use Rattle.std.specs.Prelude.{◌≡◌, ◌+◌, IfOk};
+ghost use Rattle.rules.specs.Calls.{open_of, read_of, write_of, jolt_of, again_of, drop_of, push_of};
+ghost use Rattle.rules.specs.Examples.{on_lines};
+ghost use Rattle.rules.specs.Refusals.{by_handle, by_number};
+ghost use Rattle.handles.specs.Handles.{WrittenBack, pushes_of, slots_left};
+ghost use Rattle.walkthrough.specs.Walk.{committed, mode_text, on_bench};
 
 use crate::bench::Bench;
 use crate::stopped::Stopped;
-use handles::{Closed, Running};
+use handles::{Closed, Refused, Running, WritingBack};
 use parts::Mode;
+use rules::Refusal;
 
-fn mode_word(mode: Mode) -> &'static str {
+fn mode_word(mode: Mode) -> &'static str
+    ensures { result.now ≡ mode_text mode }
+{
     match mode {
         Mode::Hardware => "hardware",
         Mode::Software => "software",
@@ -16,6 +24,7 @@ fn mode_word(mode: Mode) -> &'static str {
 impl Bench {
     pub(crate) fn open(&mut self, rt: &HostRuntime, head: u32) -> Result<Running, Stopped>
         ensures handle { IfOk result (λ h. h.head ≡ head) }
+        ensures left { on_bench self.new ≡ (open_of (on_bench self.old) (by_number head)).left }
         ensures cells { self.new.cells ≡ self.old.cells }
     {
         let begun = Running::open(&mut self.rig, head, &self.cells, &self.reads, &self.writes)?;
@@ -33,6 +42,8 @@ impl Bench {
         handle: &Running,
         cell: u32,
     ) -> Result<(), Stopped>
+        ensures left { on_bench self.new
+            ≡ (read_of on_lines (on_bench self.old) (by_handle handle.now.head handle.now.transaction) cell).left }
         ensures cells { self.new.cells ≡ self.old.cells }
     {
         match handle.read(
@@ -59,6 +70,8 @@ impl Bench {
         cell: u32,
         word: i32,
     ) -> Result<(), Stopped>
+        ensures left { on_bench self.new
+            ≡ (write_of on_lines (on_bench self.old) (by_handle handle.now.head handle.now.transaction) cell word).left }
         ensures cells { self.new.cells ≡ self.old.cells }
     {
         handle.write(
@@ -80,6 +93,8 @@ impl Bench {
         head: u32,
         handle: &Running,
     ) -> Result<(), Stopped>
+        ensures left { on_bench self.new
+            ≡ (jolt_of (on_bench self.old) (by_handle handle.now.head handle.now.transaction)).left }
         ensures cells { self.new.cells ≡ self.old.cells }
     {
         let answer = handle.jolt(&mut self.rig, &self.cells, &self.reads, &self.writes);
@@ -100,6 +115,8 @@ impl Bench {
         handle: Running,
     ) -> Result<Running, Stopped>
         ensures handle { IfOk result (λ h. (h.head ≡ handle.head) × (h.transaction ≡ handle.transaction)) }
+        ensures left { let who = by_handle handle.head handle.transaction in
+            IfOk result (λ _. on_bench self.new ≡ (again_of on_lines (on_bench self.old) who).left) }
         ensures cells { self.new.cells ≡ self.old.cells }
     {
         let aborted = handle.into_aborted(&self.rig)?;
@@ -108,13 +125,28 @@ impl Bench {
         Ok(begun.handle)
     }
 
+    // Pushes until no slot is left. With lists of the right lengths even a refusal leaves no handle to be forgotten.
+    pub(crate) fn finish(&mut self, handle: WritingBack) -> Result<u8, Refusal>
+        ensures pushes { let who = by_handle handle.head handle.transaction in
+            IfOk result (λ n. (n ≡ 1 + slots_left (push_of (on_bench self.old) who).answer) × (on_bench self.new ≡ pushes_of (on_bench self.old) who)) }
+        ensures written_back { IfOk result (λ _. WrittenBack (on_bench self.old) (on_bench self.new) handle.head) }
+    {
+        match handle.push_all(&mut self.rig, &mut self.cells, &self.reads, &self.writes) {
+            Ok(pushes) => Ok(pushes),
+            Err(Refused { refusal, handle: _ }) => Err(refusal),
+        }
+    }
+
     // Closes, and pushes to 0 if the writes are to be pushed. Nothing that may fail comes between the close and the pushes.
     pub(crate) fn commit(
         &mut self,
         rt: &HostRuntime,
         head: u32,
         handle: Running,
-    ) -> Result<(), Stopped> {
+    ) -> Result<(), Stopped>
+        ensures { let who = by_handle handle.head handle.transaction in
+            IfOk result (λ _. on_bench self.new ≡ committed (on_bench self.old) who) }
+    {
         match handle.close(&mut self.rig, &mut self.cells, &self.reads, &self.writes)? {
             Closed::Complete(attempts) => {
                 println!(rt; "head {head} closes, attempts: {attempts}")?;
@@ -135,6 +167,8 @@ impl Bench {
         head: u32,
         handle: Running,
     ) -> Result<(), Stopped>
+        ensures left { on_bench self.new
+            ≡ (drop_of (on_bench self.old) (by_handle handle.head handle.transaction)).left }
         ensures cells { self.new.cells ≡ self.old.cells }
     {
         handle.drop(&mut self.rig, &self.cells, &self.reads, &self.writes)?;
