@@ -29,11 +29,12 @@ fn make_all<B: Board, P: Policy, W: Word>(
     ensures left { let kit = kit_of W.Word B.Board P.Policy rig.old.board rig.old.policy in
         let before = bench rig.old.table cells.old reads.old writes.old in
         bench rig.new.table cells.new reads.new writes.new ≡ left_by kit before calls.now }
+    ensures room { vec_capacity answers.new ≡ vec_capacity answers.old }
     ensures kept { (rig.new.board ≡ rig.old.board) × (rig.new.policy ≡ rig.old.policy) }
 {
     for call in calls {
         let answer = make(rig, *call, cells, reads, writes);
-        let _ = answers.push(answer);
+        answers.push_reserved(answer);
     }
 }
 
@@ -49,6 +50,7 @@ pub fn run<B: Board + Drop, P: Policy + Drop, W: Word>(
     ensures ran { let kit = kit_of W.Word B.Board P.Policy from.board from.policy in
         let before = bench (new_table from.heads from.cells) cells.old reads.old writes.old in
         IfOk result (λ run. Ran kit before calls.now (vec_items run.answers) (bench run.rig.table cells.new reads.new writes.new)) }
+    ensures room { IfOk result (λ run. vec_capacity run.answers ≡ length calls.now) }
     ensures parts { IfOk result (λ run. (run.rig.board ≡ from.board) × (run.rig.policy ≡ from.policy)) }
     ensures set_up { SetUpAs from.heads from.cells result }
     ensures untouched { IfErr result (λ _. (cells.new ≡ cells.old) × (reads.new ≡ reads.old) × (writes.new ≡ writes.old)) }

@@ -11,6 +11,7 @@ invariant-loop-call g l =
     let now = bench l.rig.table l.cells l.reads l.writes in
     record {
       room : vec_len l.answers + length l.calls ≤ l.call-index + vec_capacity l.answers;
+      same_room : vec_capacity l.answers ≡ vec_capacity l.initial.answers;
       board : l.rig.board ≡ l.initial.rig.board;
       policy : l.rig.policy ≡ l.initial.rig.policy;
       answers : vec_items l.answers ++ answers_of kit now (drop l.call-index l.calls) ≡ vec_items l.initial.answers ++ answers_of kit first l.calls;
