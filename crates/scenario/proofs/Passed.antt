@@ -7,6 +7,7 @@ use Rattle.std.proofs.lemmas.List.{length-take, take_all}
 use Rattle.entries.specs.declared.types.Entry.{Entry}
 use Rattle.faults.specs.declared.types.RigFault.{RigFault}
 use Rattle.scenario.specs.Texts.{TextSays, long, empty, lined}
+use Rattle.scenario.specs.Laws.{ReadBack}
 use Rattle.scenario.specs.Streams.{Printed}
 
 -- what was taken of the bytes that there were
@@ -32,16 +33,21 @@ says_of_first text es fault says = of es fault says
         let P : List ℕ → Type 0 = λ t. TextSays t es fault in
         subst P (take_all 65537 text (omega (arith, size))) (lined es fault some short read)
 
-module _ (Prints : List ℕ → List ℕ → Type 0) (of : (text out : List ℕ) → Prints (take 65537 text) out → Prints text out) where
-  pub printed : (had before after : Option (List ℕ)) (text out : List ℕ) → IfSome had (λ bytes. text ≡ take 65537 bytes) → Prints text out → Appends before after out → Printed Prints had before after
-  printed None before after text out h prints adds = tt
-  printed (Some bytes) before after text out h prints adds =
-      let P : List ℕ → Type 0 = λ t. Prints t out in
-      (out, of bytes out (subst P h prints), adds)
+-- what is printed of the first bytes is printed of the text
+pub of_text : (Prints : List ℕ → List ℕ → Type 0) → ((text out : List ℕ) → Prints (take 65537 text) out → Prints text out) → (had : Option (List ℕ)) (text seen out : List ℕ)
+    → IfSome had (λ bytes. text ≡ take 65537 bytes) → seen ≡ text → Prints seen out → IfSome had (λ bytes. Prints bytes out)
+of_text Prints of None text seen out h is prints = tt
+of_text Prints of (Some bytes) text seen out h is prints = let P : List ℕ → Type 0 = λ t. Prints t out in of bytes out (subst P (is ∙ h) prints)
 
-  pub printed_on_ok : {E : Type 0} (result : Result (Unit {0}) E) (had before after : Option (List ℕ)) (text seen out told : List ℕ) → IfSome had (λ bytes. text ≡ take 65537 bytes)
-      → seen ≡ text → Prints seen out → told ≡ out → OnOk result (Appends before after told) → OnOk result (Printed Prints had before after)
-  printed_on_ok (Ok x) had before after text seen out told h is prints same adds =
-      let P : List ℕ → Type 0 = λ t. Prints t out in
-      printed had before after text out h (subst P is prints) (subst (Appends before after) same adds)
-  printed_on_ok (Err e) had before after text seen out told h is prints same adds = tt
+pub printed : (Prints : List ℕ → List ℕ → Type 0) → {E : Type 0} (result : Result (Unit {0}) E) (had before after : Option (List ℕ)) (out told : List ℕ)
+    → IfSome had (λ bytes. Prints bytes out) → told ≡ out → OnOk result (Appends before after told) → OnOk result (Printed Prints had before after)
+printed Prints (Ok x) None before after out told prints same adds = tt
+printed Prints (Ok x) (Some bytes) before after out told prints same adds = (out, prints, subst (Appends before after) same adds)
+printed Prints (Err e) had before after out told prints same adds = tt
+
+pub readback_of_first : (text out : List ℕ) → ReadBack (take 65537 text) out → ReadBack text out
+readback_of_first text out r = (r.0, (r.1.0, says_of_first text r.0 r.1.0 r.1.1, r.1.2))
+
+pub readback_printed : {E : Type 0} (result : Result (Unit {0}) E) (had before after : Option (List ℕ)) (out told : List ℕ)
+    → IfSome had (λ bytes. ReadBack bytes out) → told ≡ out → OnOk result (Appends before after told) → OnOk result (Printed ReadBack had before after)
+readback_printed result had before after out told prints same adds = printed ReadBack result had before after out told prints same adds

@@ -1,3 +1,4 @@
 pub mod Putting
 pub mod Adding
 pub mod Scenarios
+pub mod Printing

@@ -1,12 +1,12 @@
 // What is printed of a text that is run.
-ghost use Rattle.std.specs.Prelude.{◌≡◌, IfOk, IfErr, OnOk, Err, string_bytes};
+ghost use Rattle.std.specs.Prelude.{◌≡◌, IfOk, IfErr, IfSome, OnOk, Err, string_bytes};
 ghost use Rattle.scenario.specs.declared.types.ReadError.TheVariants as error;
 ghost use Rattle.scenario.specs.Streams.{Printed};
 ghost use Rattle.sheets.specs.Sheets.{end_at, SheetOf, SheetOnce};
 
 use crate::rigs::sheet_of;
 use faults::RigFault;
-use scenario::{ReadError, Reading, read, read_text};
+use scenario::{ReadError, Reading, read, read_text, write_text};
 use std::alloc::{AllocError, Global};
 use std::io;
 use std::io::{Read, Write};
@@ -34,7 +34,17 @@ pub fn run_sheet(heap: Global, text: &[u8]) -> Result<String, AllocError>
     sheet_of(heap, &scenario, fault)
 }
 
+// The run sheet of the bytes that a reader has left.
+fn sheet_read<R: Read + Drop>(heap: Global, input: R) -> io::Result<String>
+    ensures { IfOk result (λ sheet. IfSome (R.remaining input) (λ text. SheetOf text (string_bytes sheet))) }
+{
+    let text = read_text(heap, input)?;
+    let sheet = run_sheet(heap, &text)?;
+    Ok(sheet)
+}
+
 // Reads a text, and writes its run sheet: the whole of the program `runsheet` but for where it reads and writes.
+#[tactic(auto, using(crate::proofs::Printing::sheet_printed))]
 pub fn print_run_sheet<R: Read + Drop, W: Write>(
     heap: Global,
     input: R,
@@ -42,7 +52,6 @@ pub fn print_run_sheet<R: Read + Drop, W: Write>(
 ) -> io::Result<()>
     ensures { OnOk result (Printed SheetOf (R.remaining input) (W.contents output.old) (W.contents output.new)) }
 {
-    let text = read_text(heap, input)?;
-    let sheet = run_sheet(heap, &text)?;
-    output.write_all(sheet.as_bytes())
+    let sheet = sheet_read(heap, input)?;
+    write_text(output, sheet.as_str())
 }

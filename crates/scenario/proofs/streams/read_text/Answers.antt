@@ -3,5 +3,5 @@ use Rattle.scenario.proofs.streams.read_text.Goals as goal
 
 pub returns : goal.returns
 returns g c =
-    first_read g.R.Read.remaining c.take.result.inner c.args.input c.take.result.limit _ _ c.take.ensures.limit c.take.ensures.inner c.in_ok-text.ensures.items
+    first_read g.R.Read.remaining c.limited.result.inner c.args.input c.limited.result.limit _ _ c.limited.ensures.limit c.limited.ensures.inner c.in_ok-text.ensures.items
     c.in_ok-read_to_end.ensures.bytes
