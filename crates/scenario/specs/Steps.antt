@@ -1,5 +1,5 @@
 -- Words for the steps of reading a scenario.
-use Rattle.std.specs.Prelude.{◌≡◌, ℕ, ◌<◌, ◌≤◌, ◌⊎◌, List, [], ◌∷◌, ◌++◌, map, length, take, IsSome, IsOk, Some, None, Ok, Err, vec_items, Option, Result}
+use Rattle.std.specs.Prelude.{◌≡◌, ℕ, ◌<◌, ◌≤◌, ◌⊎◌, List, [], ◌∷◌, ◌++◌, map, length, take, IsSome, IsOk, Some, None, Ok, Err, vec_items, vec_len, vec_capacity, Option, Result}
 use Rattle.std.specs.Option.{unwrap_or}
 use Rattle.std.specs.Fmt.{IsPlainFormatter, HasWritten}
 use Rattle.std.specs.declared.fmt.Error.{Error}
@@ -102,3 +102,9 @@ Told es (Err (error.NoMemory e)) out = ⊥
 -- after a write that is `Ok`, each item is written with a newline (byte 10) after it, if all have a text
 pub record WritesLines {W X : Type 0} (took : W → List ℕ → W → Type 0) (output : X → Option (List ℕ)) (before : Formatter W) (items : List X) (r : Result (Unit {0}) Error) (after : Formatter W) : Type 0 where
   pub wrote : ((x : X) → IsSome (output x)) → IsPlainFormatter before → IsOk r → HasWritten took before (ended 10 (map (λ x. unwrap_or (output x) []) items)) after
+
+-- the list that takes the entry has no room left
+abbrev pub LacksRoom : Scenario → Entry → Type 0
+LacksRoom s (entry.Rig r) = ⊥
+LacksRoom s (entry.Set setting) = vec_capacity s.settings ≤ vec_len s.settings
+LacksRoom s (entry.Call call) = vec_capacity s.calls ≤ vec_len s.calls

@@ -1,11 +1,11 @@
 // Reading a whole text.
-ghost use Rattle.std.specs.Prelude.{◌≡◌, ℕ, ◌<◌, ◌≤◌, List, length, Decides, MatchResult};
+ghost use Rattle.std.specs.Prelude.{◌≡◌, ℕ, ◌<◌, ◌≤◌, List, length, Decides, MatchResult, OnErr};
 ghost use Rattle.std.specs.Iterator.{item_count};
 ghost use Rattle.entries.specs.declared.types.Entry.TheVariants as entries;
 ghost use Rattle.lines.specs.Faults.{LineRead};
 ghost use Rattle.scenario.specs.Texts.{Allowed, RigRead, TextOnce, start, lines_of_text};
 ghost use Rattle.scenario.specs.Holdings.{entries_of, Read, Checked};
-ghost use Rattle.scenario.specs.Steps.{Sized, held, put, nothing, to_come, NextSaid, Ends, LinesCounted};
+ghost use Rattle.scenario.specs.Steps.{Sized, held, put, nothing, to_come, NextSaid, Ends, LinesCounted, LacksRoom};
 
 use crate::types::{ReadError, Reading, Scenario};
 use entries::{Entry, RigLine};
@@ -90,9 +90,10 @@ fn sized(text: &[u8]) -> Result<(), RigFault>
 }
 
 impl Scenario {
-    // With what one more line says.
+    // With what one more line says. Memory may want only where a list has no room left.
     fn add(&mut self, said: Entry) -> Result<(), AllocError>
-        ensures { MatchResult result (λ _. held self.new ≡ put (held self.old) said) (λ _. held self.new ≡ held self.old) }
+        ensures full { OnErr result (LacksRoom self.old said) }
+        ensures held { MatchResult result (λ _. held self.new ≡ put (held self.old) said) (λ _. held self.new ≡ held self.old) }
     {
         match said {
             Entry::Rig(rig) => {
