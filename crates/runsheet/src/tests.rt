@@ -1,5 +1,8 @@
 // Scenarios, with their run sheets.
-use sheets::{CellRow, run_sheet};
+use entries::HeadCall;
+use parts::Call;
+use rules::Granted;
+use sheets::{CellRow, Row, run_sheet};
 use std::alloc::Global;
 use std::process::Abort;
 use std::test::Fail;
@@ -58,11 +61,30 @@ fn sheets_of_texts(rt: HostRuntime) -> Result<(), Fail> {
     each_run(&rt, heap, FAULTY)
 }
 
-// One line by itself.
+// Lines by themselves.
 #[test]
-fn line_of_a_cell(rt: HostRuntime) -> Result<(), Fail> {
-    let row = CellRow { cell: 3, word: -5 };
-    let line = format!(in rt.alloc(); "{row}")?;
+fn lines_alone(rt: HostRuntime) -> Result<(), Fail> {
+    let heap = rt.alloc();
+    let cell = CellRow { cell: 3, word: -5 };
+    let line = format!(in heap; "{cell}")?;
     assert_eq!(rt; line.as_str(), "cell\t3\t-5");
+    let granted = Row {
+        made: HeadCall {
+            head: 7,
+            call: Call::Write(0, 1500),
+        },
+        answer: Ok(Granted::Done),
+    };
+    let line = format!(in heap; "{granted}")?;
+    assert_eq!(rt; line.as_str(), "w\t7\t0\t-");
+    let read = Row {
+        made: HeadCall {
+            head: 12,
+            call: Call::Read(0),
+        },
+        answer: Ok(Granted::Word(-1500)),
+    };
+    let line = format!(in heap; "{read}")?;
+    assert_eq!(rt; line.as_str(), "r\t12\t0\t-1500");
     Ok(())
 }
