@@ -1,5 +1,7 @@
 -- Lines that are added to a text one by one.
-use Rattle.std.proofs.Common.{◌≡◌, ℕ, List, [], ◌∷◌, ◌++◌, ℤ, ◌⊎◌, refl, sym, ap, ◌∙◌, inl, inr}
+use Rattle.std.proofs.Common.{◌≡◌, ℕ, List, [], ◌∷◌, ◌++◌, ℤ, ◌⊎◌, Bool, true, false, cond, refl, sym, ap, ◌∙◌, inl, inr}
+use Rattle.std.specs.Str.{IsUtf8}
+use Rattle.std.proofs.lemmas.Str.{IsUtf8-append}
 use Rattle.entries.specs.declared.types.HeadCall.{HeadCall}
 use Rattle.fields.specs.Parts.{ended}
 use Rattle.rules.specs.Answers.{Answer}
@@ -16,3 +18,8 @@ no_row_left (k ∷ calls) (x ∷ answers) (inr none) = cc
 -- the last lines are added
 pub end_added : (before after : List ℕ) (lines more : List (List ℕ)) → before ≡ ended 10 lines → after ≡ before ++ ended 10 more → after ≡ ended 10 (lines ++ more)
 end_added before after lines more has added = added ∙ ap (λ b. b ++ ended 10 more) has ∙ sym (ended-append lines more)
+
+-- what is added to a text leaves it a text, and so does a failure to add it
+pub still_text : (added : Bool) (old more : List ℕ) → IsUtf8 old → IsUtf8 more → IsUtf8 (cond added (old ++ more) old)
+still_text true old more a b = IsUtf8-append old more a b
+still_text false old more a b = a

@@ -1,8 +1,11 @@
 // The lines of a run sheet as they are printed.
-ghost use Rattle.std.specs.Prelude.{◌≡◌, ◌≤◌, ◌∷◌, [], ◌++◌, Some, OnOk, pos, length};
+ghost use Rattle.std.specs.Prelude.{◌≡◌, ◌≤◌, ◌∷◌, [], ◌++◌, ◌<◌, Some, OnOk, IfSome, pos, length};
+ghost use Rattle.std.specs.Fmt.{decimal};
+ghost use Rattle.std.specs.Str.{IsAscii};
+ghost use Rattle.entries.specs.Rendering.{letter_text};
 ghost use Rattle.fields.specs.Parts.{ended};
 ghost use Rattle.rules.specs.Answers.{granted_value, answer_number, answer_value};
-ghost use Rattle.sheets.specs.Rows.{row_text, cell_row_text};
+ghost use Rattle.sheets.specs.Rows.{value_text, row_text, cell_row_text};
 
 use crate::line::Line;
 use crate::types::{CellRow, Row};
@@ -102,15 +105,70 @@ impl fmt::Display for CellRow {
     }
 }
 
+// The byte of a letter.
+fn letter_byte(letter: Letter) -> u8
+    ensures text { letter_text letter ≡ result ∷ [] }
+    ensures ascii { result < 128 }
+{
+    letter.as_str().as_bytes()[0]
+}
+
+// The byte of a number that has one digit.
+#[tactic(auto, using(std::proofs::lemmas::Fmt::decimal_digit))]
+fn number_byte(number: u64) -> Option<u8>
+    ensures text { IfSome result (λ byte. decimal number ≡ byte ∷ []) }
+    ensures ascii { IfSome result (λ byte. byte < 128) }
+{
+    if number < 10 {
+        Some(b'0' + number as u8)
+    } else {
+        None
+    }
+}
+
+// The byte of a value that has one digit and no sign, or of one that is not there.
+fn value_byte(value: Option<i64>) -> Option<u8>
+    ensures text { IfSome result (λ byte. value_text value ≡ byte ∷ []) }
+    ensures ascii { IfSome result (λ byte. byte < 128) }
+{
+    match value {
+        None => Some(b'-'),
+        Some(value) if value >= 0 => number_byte(value.unsigned_abs()),
+        Some(_) => None,
+    }
+}
+
+// The whole line of a call, if each number in it is one byte, as in most lines: these bytes are put together in
+// registers, which is much quicker than to write the parts one by one and then copy them.
+fn short_line(row: Row) -> Option<[u8; 8]>
+    ensures text { IfSome result (λ line. line ≡ ended 10 (row_text row ∷ [])) }
+    ensures ascii { IfSome result (λ line. IsAscii line) }
+{
+    let Row {
+        made: HeadCall { head, call },
+        answer,
+    } = row;
+    let letter = letter_byte(Letter::from(call));
+    let head = number_byte(u64::from(head))?;
+    let number = number_byte(u64::from(answer_number(answer)))?;
+    let value = value_byte(answer_value(answer))?;
+    Some([letter, b'\t', head, b'\t', number, b'\t', value, b'\n'])
+}
+
 impl Lines {
     // Adds the line of a call.
     pub(crate) fn push_row(&mut self, row: Row) -> Result<(), AllocError>
         ensures { OnOk result (self.new ≡ self.old ++ ended 10 (row_text row ∷ [])) }
     {
-        let mut line = Line::new();
-        line.put("\n");
-        put_row(&mut line, row);
-        self.push(&line)
+        match short_line(row) {
+            Some(line) => self.push_short(&line),
+            None => {
+                let mut line = Line::new();
+                line.put("\n");
+                put_row(&mut line, row);
+                self.push(&line)
+            }
+        }
     }
 
     // Adds the line of a cell.

@@ -1,5 +1,6 @@
 // The lines of a run sheet, one after another.
 ghost use Rattle.std.specs.Prelude.{◌≡◌, [], ◌++◌, IfOk, OnOk, string_bytes};
+ghost use Rattle.std.specs.Str.{IsAscii};
 
 use crate::line::Line;
 use std::alloc::{AllocError, Global};
@@ -35,6 +36,14 @@ impl Lines {
         ensures { OnOk result (self.new ≡ self.old ++ line.now) }
     {
         self.bytes.extend_from_slice(line.as_bytes())
+    }
+
+    // Adds a line of eight bytes. It is stored at once, since its length is known.
+    pub(crate) fn push_short(&mut self, line: &[u8; 8]) -> Result<(), AllocError>
+        requires { IsAscii line.now }
+        ensures { OnOk result (self.new ≡ self.old ++ line.now) }
+    {
+        self.bytes.extend_from_slice(line)
     }
 
     pub(crate) fn into_text(self) -> String
