@@ -1,1 +1,2 @@
 mod Whole
+pub mod Places

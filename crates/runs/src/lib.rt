@@ -7,4 +7,4 @@ mod types;
 
 pub use calls::make;
 pub use runs::run;
-pub use types::{Answer, Run, RunError, SetUp};
+pub use types::{Answer, Calls, Run, RunError, SetUp};

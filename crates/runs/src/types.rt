@@ -1,13 +1,52 @@
 // What a run is made from, and what it gives.
-ghost use Rattle.std.specs.Prelude.{◌≡◌};
+ghost use Rattle.std.specs.Prelude.{◌≡◌, List, length};
+ghost use Rattle.std.specs.List.{slice_get};
+ghost use Rattle.rules.specs.declared.types.MadeCall.{MadeCall as Made};
 ghost use Rattle.runs.specs.declared.types.RunError.TheVariants as error;
 
+use parts::Word;
 use rig::Rig;
-use rules::{Granted, Refusal};
+use rules::{Granted, MadeCall, Refusal};
 use std::alloc::AllocError;
 
 // What a call answers.
 pub type Answer<W> = Result<Granted<W>, Refusal>;
+
+// A list of calls to be made: of calls as such, or of what stands for them.
+pub trait Calls<W: Word> {
+    ghost made: { Self → List (Made W) };
+
+    fn count(&self) -> usize
+        ensures { result ≡ length (made self.now) };
+
+    // The call at a place of the list, if it is that long.
+    fn call_at(&self, at: usize) -> Option<MadeCall<W>>
+        ensures { result ≡ slice_get (made self.now) at };
+}
+
+impl<W: Word> Calls<W> for Vec<MadeCall<W>> {
+    ghost made = { λ calls. calls.items };
+
+    fn count(&self) -> usize {
+        self.len()
+    }
+
+    fn call_at(&self, at: usize) -> Option<MadeCall<W>> {
+        self.get(at).copied()
+    }
+}
+
+impl<W: Word, const N: usize> Calls<W> for [MadeCall<W>; N] {
+    ghost made = { λ calls. calls };
+
+    fn count(&self) -> usize {
+        self.len()
+    }
+
+    fn call_at(&self, at: usize) -> Option<MadeCall<W>> {
+        self.get(at).copied()
+    }
+}
 
 // What a rig is set up from.
 #[derive(Drop)]

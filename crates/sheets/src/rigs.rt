@@ -8,7 +8,7 @@ ghost use Rattle.sheets.specs.Kits.{kit_on, kit_named};
 ghost use Rattle.sheets.specs.Starts.{CanBegin};
 ghost use Rattle.sheets.specs.Sheets.{held_run, sheet_lines};
 
-use crate::starts::{cells_before, empty_slots, made_calls};
+use crate::starts::{ByHead, cells_before, empty_slots};
 use crate::texts::sheet_text;
 use entries::{BoardName, PolicyName, RigLine};
 use faults::RigFault;
@@ -29,7 +29,9 @@ fn sheet_with<B: Board + Drop, P: Policy + Drop>(
         IfOk result (λ t. string_bytes t
         ≡ ended 10 (held_run kit set_up.heads set_up.cells scenario.now fault)) }
 {
-    let calls = made_calls(heap, &scenario.calls)?;
+    let calls = ByHead {
+        calls: &scenario.calls,
+    };
     let mut cells = cells_before(heap, set_up.cells, &scenario.settings)?;
     let mut reads = empty_slots(heap, set_up.heads)?;
     let mut writes = empty_slots(heap, set_up.heads)?;

@@ -5,6 +5,7 @@ ghost use Rattle.sheets.specs.Starts.{made_call, cells_before};
 
 use entries::{HeadCall, Setting};
 use rules::{Caller, LentLists, MadeCall, Slot};
+use runs::Calls;
 use std::alloc::{AllocError, Global};
 
 // The cells before the first call: one that no setting names holds 0, and the later of two settings counts.
@@ -46,9 +47,23 @@ fn made_call(call: HeadCall) -> MadeCall<i32>
     }
 }
 
-// The calls of a scenario, in their order.
-pub(crate) fn made_calls(heap: Global, calls: &[HeadCall]) -> Result<Vec<MadeCall<i32>>, AllocError>
-    ensures { IfOk result (λ v. v.items ≡ map made_call calls.now) }
-{
-    calls.iter().map(|call| made_call(*call)).collect(heap)
+// The calls of a scenario, in their order, as their heads make them.
+#[derive(Drop)]
+pub(crate) struct ByHead<'a> {
+    pub(crate) calls: &'a [HeadCall],
+}
+
+impl Calls<i32> for ByHead<'_> {
+    ghost made = { λ list. map made_call list.calls.now };
+
+    fn count(&self) -> usize {
+        self.calls.len()
+    }
+
+    fn call_at(&self, at: usize) -> Option<MadeCall<i32>> {
+        match self.calls.get(at) {
+            Some(call) => Some(made_call(*call)),
+            None => None,
+        }
+    }
 }

@@ -17,10 +17,10 @@ returns-clause-ran g c =
     } in
     let rig = c.in_ok-rig.rig in
     let parts = c.in_ok-rig.ensures.parts in
-    ran-from (kit c.args.from.board c.args.from.policy) law c.args.from.heads c.args.from.cells c.args.cells.now c.args.reads.now c.args.writes.now c.args.calls.now
+    ran-from (kit c.args.from.board c.args.from.policy) law c.args.from.heads c.args.from.cells c.args.cells.now c.args.reads.now c.args.writes.now (g.C.Calls.made c.args.calls.now)
     rig.table (kit rig.board rig.policy) _ (bench c.make_all.new.rig.table c.make_all.new.cells c.make_all.new.reads c.make_all.new.writes) c.in_ok-rig.ensures.table
     (ap (λ x. kit x rig.policy) parts.0 ∙ ap (kit c.args.from.board) parts.1)
-    (c.make_all.ensures.answers ∙ ap (λ xs. xs ++ answers_of (kit rig.board rig.policy) (bench rig.table c.args.cells.now c.args.reads.now c.args.writes.now) c.args.calls.now) c.in_ok-answers.ensures.items) c.make_all.ensures.left
+    (c.make_all.ensures.answers ∙ ap (λ xs. xs ++ answers_of (kit rig.board rig.policy) (bench rig.table c.args.cells.now c.args.reads.now c.args.writes.now) (g.C.Calls.made c.args.calls.now)) c.in_ok-answers.ensures.items) c.make_all.ensures.left
 
 pub returns-clause-set_up : goal.returns-clause-set_up
 returns-clause-set_up g c = c.in_ok-rig.ensures.table ∙ ap Ok (set-up-new c.args.from.heads c.args.from.cells c.in_ok-rig.rig.table c.in_ok-rig.ensures.table).0
