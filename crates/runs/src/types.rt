@@ -24,6 +24,13 @@ pub trait Calls<W: Word> {
         ensures { result ≡ slice_get (made self.now) at };
 }
 
+// The call at a place, if there is one.
+fn call_in<W: Word>(calls: &[MadeCall<W>], at: usize) -> Option<MadeCall<W>>
+    ensures { result ≡ slice_get calls.now at }
+{
+    calls.get(at).copied()
+}
+
 impl<W: Word> Calls<W> for Vec<MadeCall<W>> {
     ghost made = { λ calls. calls.items };
 
@@ -32,7 +39,7 @@ impl<W: Word> Calls<W> for Vec<MadeCall<W>> {
     }
 
     fn call_at(&self, at: usize) -> Option<MadeCall<W>> {
-        self.get(at).copied()
+        call_in(self, at)
     }
 }
 
@@ -40,11 +47,11 @@ impl<W: Word, const N: usize> Calls<W> for [MadeCall<W>; N] {
     ghost made = { λ calls. calls };
 
     fn count(&self) -> usize {
-        self.len()
+        N
     }
 
     fn call_at(&self, at: usize) -> Option<MadeCall<W>> {
-        self.get(at).copied()
+        call_in(self, at)
     }
 }
 
