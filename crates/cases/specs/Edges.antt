@@ -90,6 +90,7 @@ module _ (stores lines careful : Kit ℤ) (same : Rate → Rate → Bool) where
   edge_cases =
       -- set-up
       SetUp 8 1024 0 ∷
+      SetUp 1 1 0 ∷
       SetUp 0 1024 11 ∷
       SetUp 9 1024 11 ∷
       SetUp 8 1025 11 ∷

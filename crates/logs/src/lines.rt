@@ -19,8 +19,8 @@ fn either_touches<W: Word, B: Board>(
     one.touches(board, line) || other.touches(board, line)
 }
 
-// Whether the line is on neither of two logs, the first from a place on. A line whose remainder by 64 is not marked needs no
-// search.
+// Whether no cell of either log is on the line; of the first log only the slots from a place on count. A line whose remainder
+// by 64 is not marked needs no search.
 fn is_new<W: Word, B: Board>(
     board: &B,
     line: u32,
@@ -39,7 +39,7 @@ fn is_new<W: Word, B: Board>(
     !either_touches(board, line, &log.part(from, log.len()), other)
 }
 
-// Counts the lines of a log beside those of another, of which there are `count`, and marks them.
+// Adds to `count`, the number of lines of the other log, the lines of this one that are not among them, and marks them.
 fn count_beside<W: Word, B: Board>(
     board: &B,
     log: &Log<'_, W>,

@@ -15,7 +15,7 @@ use std::alloc::Global;
 
 // The call at a place that the list has.
 #[tactic(auto, using(crate::proofs::Places::rest_at, crate::proofs::Places::none_at))]
-fn call_of<W: Word, C: Calls<W>>(calls: &C, at: usize) -> MadeCall<W>
+fn nth_call<W: Word, C: Calls<W>>(calls: &C, at: usize) -> MadeCall<W>
     requires { at < length (C.Calls.made calls.now) }
     ensures { drop at (C.Calls.made calls.now) ≡ result ∷ drop (at + 1) (C.Calls.made calls.now) }
 {
@@ -45,7 +45,7 @@ fn make_all<B: Board, P: Policy, W: Word, C: Calls<W>>(
     ensures kept { (rig.new.board ≡ rig.old.board) × (rig.new.policy ≡ rig.old.policy) }
 {
     for at in 0..calls.count() {
-        let answer = make(rig, call_of(calls, at), cells, reads, writes);
+        let answer = make(rig, nth_call(calls, at), cells, reads, writes);
         answers.push_reserved(answer);
     }
 }

@@ -31,6 +31,18 @@ fn call_in<W: Word>(calls: &[MadeCall<W>], at: usize) -> Option<MadeCall<W>>
     calls.get(at).copied()
 }
 
+impl<W: Word> Calls<W> for &[MadeCall<W>] {
+    ghost made = { λ calls. calls.now };
+
+    fn count(&self) -> usize {
+        self.len()
+    }
+
+    fn call_at(&self, at: usize) -> Option<MadeCall<W>> {
+        call_in(self, at)
+    }
+}
+
 impl<W: Word> Calls<W> for Vec<MadeCall<W>> {
     ghost made = { λ calls. calls.items };
 

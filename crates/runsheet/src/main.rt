@@ -14,6 +14,6 @@ fn main(rt: HostRuntime) {
 }
 
 #[cfg(test)]
-mod library;
+mod library_tests;
 #[cfg(test)]
 mod tests;

@@ -90,7 +90,7 @@ fn sized(text: &[u8]) -> Result<(), RigFault>
 }
 
 impl Scenario {
-    // With what one more line says. Memory may want only where a list has no room left.
+    // With what one more line says. It fails only where the entry's list is full.
     fn add(&mut self, said: Entry) -> Result<(), AllocError>
         ensures full { OnErr result (LacksRoom self.old said) }
         ensures held { MatchResult result (λ _. held self.new ≡ put (held self.old) said) (λ _. held self.new ≡ held self.old) }
@@ -128,7 +128,7 @@ fn take_text(scenario: &mut Scenario, text: &[u8]) -> Result<(), ReadError>
     ensures { Read text.now (entries_of scenario.new) result }
 {
     sized(text)?;
-    // no call takes fewer bytes
+    // a call and its newline take 4 bytes, and the rig line more
     scenario.calls.reserve(text.len() / 4)?;
     take_lines(scenario, text)
 }

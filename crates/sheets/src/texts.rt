@@ -50,7 +50,7 @@ pub(crate) fn sheet_text(
     ensures { IfOk result (λ t. string_bytes t
         ≡ ended 10 (map row_text (rows_of calls.now answers.now) ++ end_lines cells.now fault)) }
 {
-    // few lines are longer
+    // 16 bytes a line: few are longer
     let room = (calls.len() + cells.len()).saturating_mul(16);
     let mut lines = Lines::with_room(heap, room)?;
     push_rows(&mut lines, calls, answers)?;

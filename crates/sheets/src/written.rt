@@ -24,7 +24,7 @@ impl Model for Lines {
 }
 
 impl Lines {
-    // No lines, and room for so many bytes.
+    // No lines. The room that is made for so many bytes is no promise.
     pub(crate) fn with_room(heap: Global, bytes: usize) -> Result<Lines, AllocError>
         ensures { IfOk result (λ l. l ≡ []) }
     {

@@ -1,5 +1,6 @@
 // Single steps, each printed. The handle that a step needs is moved into it, or lent, as the call by handle wants it.
 ghost use Rattle.std.specs.Prelude.{◌≡◌, ◌+◌, IfOk};
+ghost use Rattle.rules.specs.Bench.{head_at};
 ghost use Rattle.rules.specs.Calls.{open_of, read_of, write_of, jolt_of, again_of, drop_of, push_of};
 ghost use Rattle.rules.specs.Examples.{on_lines};
 ghost use Rattle.rules.specs.Refusals.{by_handle, by_number};
@@ -23,7 +24,7 @@ fn mode_word(mode: Mode) -> &'static str
 
 impl Bench {
     pub(crate) fn open(&mut self, rt: &HostRuntime, head: u32) -> Result<Running, Stopped>
-        ensures handle { IfOk result (λ h. h.head ≡ head) }
+        ensures handle { IfOk result (λ h. (h.head ≡ head) × ((head_at (on_bench self.new) head).transaction ≡ h.transaction)) }
         ensures left { on_bench self.new ≡ (open_of (on_bench self.old) (by_number head)).left }
         ensures cells { self.new.cells ≡ self.old.cells }
     {

@@ -23,12 +23,12 @@ loop-k-preserved g c t cells =
     let x = get_or c.loop-k.heads c.loop-k.k new_head in
     let told = λ (b : Bool). cond b (abort Conflict x) x in
     elim c.if-is_hit.branch [
-    | then-is_hit w ↦
-      w.heads-is ∙ mapped_more _ c.loop-k.k c.args.heads.now c.loop-k.heads new_head w.abort.result near (c.loop-k.invariant t cells)
-      (w.abort.ensures ∙ ap told (sym w.if-is_hit.true ∙ c.is_hit.ensures))
-    | else-is_hit w ↦
-      w.heads-is ∙ mapped_same _ c.loop-k.k c.args.heads.now c.loop-k.heads new_head near (c.loop-k.invariant t cells)
-      (ap told (sym w.if-is_hit.false ∙ c.is_hit.ensures))
+      | then-is_hit w ↦
+          w.heads-is ∙ mapped_more _ c.loop-k.k c.args.heads.now c.loop-k.heads new_head w.abort.result near (c.loop-k.invariant t cells)
+          (w.abort.ensures ∙ ap told (sym w.if-is_hit.true ∙ c.is_hit.ensures))
+      | else-is_hit w ↦
+          w.heads-is ∙ mapped_same _ c.loop-k.k c.args.heads.now c.loop-k.heads new_head near (c.loop-k.invariant t cells)
+          (ap told (sym w.if-is_hit.false ∙ c.is_hit.ensures))
     ]
 
 pub returns-clause-heads : goal.returns-clause-heads
