@@ -85,7 +85,7 @@ impl Running {
         ensures outcome { let kit = kit_of W.Word B.Board P.Policy rig.old.board rig.old.policy in
             let before = bench rig.old.table cells.now reads.old writes.now in
             outcome result (bench rig.new.table cells.now reads.new writes.now)
-            ≡ read_of kit before (by_handle self.now.head self.now.transaction) cell }
+            ≡ read_of kit.memory before (by_handle self.now.head self.now.transaction) cell }
         ensures lengths { lengths_match (bench rig.new.table cells.now reads.new writes.now)
             ≡ lengths_match (bench rig.old.table cells.now reads.old writes.now) }
         ensures kept { (rig.new.board ≡ rig.old.board) × (rig.new.policy ≡ rig.old.policy) }
@@ -107,7 +107,7 @@ impl Running {
         ensures outcome { let kit = kit_of W.Word B.Board P.Policy rig.old.board rig.old.policy in
             let before = bench rig.old.table cells.now reads.now writes.old in
             outcome result (bench rig.new.table cells.now reads.now writes.new)
-            ≡ write_of kit before (by_handle self.now.head self.now.transaction) cell word }
+            ≡ write_of kit.memory before (by_handle self.now.head self.now.transaction) cell word }
         ensures lengths { lengths_match (bench rig.new.table cells.now reads.now writes.new)
             ≡ lengths_match (bench rig.old.table cells.now reads.now writes.old) }
         ensures kept { (rig.new.board ≡ rig.old.board) × (rig.new.policy ≡ rig.old.policy) }
@@ -146,10 +146,10 @@ impl Running {
     ) -> Result<Closed, Refused<Running>>
         ensures answer { let kit = kit_of W.Word B.Board P.Policy rig.old.board rig.old.policy in
             let before = bench rig.old.table cells.old reads.now writes.now in
-            result ≡ after_close self (close_of kit before (by_handle self.head self.transaction)).answer }
+            result ≡ after_close self (close_of kit.memory before (by_handle self.head self.transaction)).answer }
         ensures left { let kit = kit_of W.Word B.Board P.Policy rig.old.board rig.old.policy in
             let before = bench rig.old.table cells.old reads.now writes.now in
-            bench rig.new.table cells.new reads.now writes.now ≡ (close_of kit before (by_handle self.head self.transaction)).left }
+            bench rig.new.table cells.new reads.now writes.now ≡ (close_of kit.memory before (by_handle self.head self.transaction)).left }
         ensures lengths { lengths_match (bench rig.new.table cells.new reads.now writes.now)
             ≡ lengths_match (bench rig.old.table cells.old reads.now writes.now) }
         ensures kept { (rig.new.board ≡ rig.old.board) × (rig.new.policy ≡ rig.old.policy) }
@@ -242,10 +242,10 @@ impl Aborted {
     ) -> Result<Begun, Refused<Aborted>>
         ensures answer { let kit = kit_of W.Word B.Board P.Policy rig.old.board rig.old.policy in
             let before = bench rig.old.table cells.now reads.now writes.now in
-            result ≡ after_again self (again_of kit before (by_handle self.head self.transaction)).answer }
+            result ≡ after_again self (again_of kit.policy before (by_handle self.head self.transaction)).answer }
         ensures left { let kit = kit_of W.Word B.Board P.Policy rig.old.board rig.old.policy in
             let before = bench rig.old.table cells.now reads.now writes.now in
-            bench rig.new.table cells.now reads.now writes.now ≡ (again_of kit before (by_handle self.head self.transaction)).left }
+            bench rig.new.table cells.now reads.now writes.now ≡ (again_of kit.policy before (by_handle self.head self.transaction)).left }
         ensures lengths { lengths_match (bench rig.new.table cells.now reads.now writes.now)
             ≡ lengths_match (bench rig.old.table cells.now reads.now writes.now) }
         ensures kept { (rig.new.board ≡ rig.old.board) × (rig.new.policy ≡ rig.old.policy) }

@@ -2,3 +2,4 @@ pub mod Words
 pub mod Boards
 pub mod Policies
 pub mod Causes
+pub mod Sizes

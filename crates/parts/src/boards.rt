@@ -18,7 +18,7 @@ pub trait Board {
 }
 
 // Eight cells to a line; at most 32 stores.
-#[derive(Clone, Copy)]
+#[derive(Clone, Copy, Debug, PartialEq, Eq)]
 pub struct StoresBoard;
 
 impl Board for StoresBoard {
@@ -37,7 +37,7 @@ impl Board for StoresBoard {
 
 // Four cells to a line; at most four lines touched.
 // Its `line` is not shared with the other board's: one division by a constant is shorter than a call of one.
-#[derive(Clone, Copy)]
+#[derive(Clone, Copy, Debug, PartialEq, Eq)]
 pub struct LinesBoard;
 
 impl Board for LinesBoard {
@@ -55,7 +55,7 @@ impl Board for LinesBoard {
 }
 
 // A board that keeps four stores and one line of the board below free for the interrupt handler.
-#[derive(Clone, Copy)]
+#[derive(Clone, Copy, Debug, PartialEq, Eq)]
 pub struct Margin<B: Board> {
     pub below: B,
 }

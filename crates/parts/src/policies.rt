@@ -1,6 +1,7 @@
 // Retry policies: how a transaction goes on after a hardware attempt has aborted.
-ghost use Rattle.std.specs.Prelude.{◌≡◌, ℕ, ◌≤◌};
+ghost use Rattle.std.specs.Prelude.{◌≡◌, ◌≢◌, ℕ, ◌≤◌};
 ghost use Rattle.parts.specs.declared.types.Cause.{Cause};
+ghost use Rattle.parts.specs.declared.types.Cause.TheVariants as causes;
 ghost use Rattle.parts.specs.declared.types.Mode.{Mode};
 ghost use Rattle.parts.specs.declared.types.Mode.TheVariants as modes;
 ghost use Rattle.parts.specs.Policies.{software_from, plain_mode, careful_mode};
@@ -18,8 +19,8 @@ pub trait Policy {
     fn next(&self, cause: Cause, aborts: u32) -> Mode
         ensures { result ≡ next self.now cause aborts };
 
-    // From as many hardware aborts on, the answer is software.
-    ghost software_from_patience: { (p : Self) (c : Cause) (aborts : ℕ) → patience p ≤ aborts → next p c aborts ≡ modes.Software };
+    // From as many hardware aborts on, the answer is software, after each cause that ends a hardware attempt.
+    ghost software_from_patience: { (p : Self) (c : Cause) (aborts : ℕ) → c ≢ causes.Changed → patience p ≤ aborts → next p c aborts ≡ modes.Software };
 
     ghost at_least_one: { (p : Self) → 1 ≤ patience p };
 
@@ -38,7 +39,7 @@ fn software_from(n: u32, aborts: u32) -> Mode
 }
 
 // Software from the third hardware abort on.
-#[derive(Clone, Copy)]
+#[derive(Clone, Copy, Debug, PartialEq, Eq)]
 pub struct Plain;
 
 impl Policy for Plain {
@@ -58,7 +59,7 @@ impl Policy for Plain {
 }
 
 // Software at once after capacity, from the fifth hardware abort on after lock or an interrupt, from the sixteenth on after conflict.
-#[derive(Clone, Copy)]
+#[derive(Clone, Copy, Debug, PartialEq, Eq)]
 pub struct Careful;
 
 impl Policy for Careful {

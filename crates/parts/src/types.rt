@@ -1,7 +1,7 @@
 // Why an attempt ends, how one runs, and the price of an item.
 
 // Why an attempt aborted.
-#[derive(Clone, Copy)]
+#[derive(Clone, Copy, Debug, PartialEq, Eq)]
 pub enum Cause {
     // another head reached a line that this one had
     Conflict = 1,
@@ -16,21 +16,21 @@ pub enum Cause {
 }
 
 // How an attempt runs: as a hardware transaction of the board, or in software.
-#[derive(Clone, Copy)]
+#[derive(Clone, Copy, Debug, PartialEq, Eq)]
 pub enum Mode {
     Hardware = 1,
     Software = 2,
 }
 
 // The two prices of an item, in hundredths.
-#[derive(Clone, Copy, PartialEq, Eq)]
+#[derive(Clone, Copy, Debug, PartialEq, Eq)]
 pub struct Prices {
     pub retail: u32,
     pub wholesale: u32,
 }
 
 // What an item costs.
-#[derive(Clone, Copy, PartialEq, Eq)]
+#[derive(Clone, Copy, Debug, PartialEq, Eq)]
 pub enum Rate {
     Unset,
     PerKilogram(Prices),

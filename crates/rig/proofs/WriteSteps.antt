@@ -9,7 +9,7 @@ use Rattle.rules.specs.declared.types.Head.{Head}
 use Rattle.rules.specs.declared.types.Slot.{Slot}
 use Rattle.rules.specs.declared.types.Refusal.{Refusal}
 use Rattle.rules.specs.declared.types.Refusal.TheVariants as refuse
-use Rattle.rules.specs.Kit.{Kit}
+use Rattle.rules.specs.Kit.{Memory}
 use Rattle.rules.specs.Logs.{put, lacks_room_for, lines_of, distinct_count, log_of, slots_with}
 use Rattle.rules.specs.Heads.{abort, is_hardware, stores_after}
 use Rattle.rules.specs.Bounds.{HeadBounds}
@@ -29,41 +29,41 @@ use Rattle.rig.specs.Admission.{Admits}
 use Rattle.rig.specs.Stores.{stored}
 use Rattle.rig.proofs.Mapped.{map_alike}
 
-module _ {W : Type 0} (kit : Kit W) (b : Bench W) (k : ℕ) (h : Head) (c : ℕ) where
+module _ {W : Type 0} (memory : Memory W) (b : Bench W) (k : ℕ) (h : Head) (c : ℕ) where
   pub stored_ok : (ys : List Head)
-      → kit.fits h.stores (distinct_count (lines_of kit.line (log_of k h.read_count b.reads ++ log_of k h.write_count b.writes))) ≡ true
-      → ys ≡ after_store kit b k c → outcome (Ok tt) (bench (record b.table { heads = set ys k h }) b.cells b.reads b.writes) ≡ stored kit b k h c
+      → memory.fits h.stores (distinct_count (lines_of memory.line (log_of k h.read_count b.reads ++ log_of k h.write_count b.writes))) ≡ true
+      → ys ≡ after_store memory b k c → outcome (Ok tt) (bench (record b.table { heads = set ys k h }) b.cells b.reads b.writes) ≡ stored memory b k h c
   stored_ok ys fits es =
       ap (λ zs. outcome (Ok tt) (bench (record b.table { heads = set zs k h }) b.cells b.reads b.writes)) es
-      ∙ sym (ap (λ t. cond t (outcome (Ok tt) (bench (record b.table { heads = set (after_store kit b k c) k h }) b.cells b.reads b.writes)) (leaves b (Err (refuse.Aborted Capacity)) (record b.table { heads = set b.table.heads k (abort Capacity h) }))) fits)
+      ∙ sym (ap (λ t. cond t (outcome (Ok tt) (bench (record b.table { heads = set (after_store memory b k c) k h }) b.cells b.reads b.writes)) (leaves b (Err (refuse.Aborted Capacity)) (record b.table { heads = set b.table.heads k (abort Capacity h) }))) fits)
 
 -- the word is in the head's log, and the slots of the others are as they were
-module _ {W : Type 0} (kit : Kit W) (b : Bench W) (k c : ℕ) (log : List (Slot W)) (few : length log ≤ 32) (room : 32 * k + 32 ≤ length b.writes) where
+module _ {W : Type 0} (memory : Memory W) (b : Bench W) (k c : ℕ) (log : List (Slot W)) (few : length log ≤ 32) (room : 32 * k + 32 ≤ length b.writes) where
   abbrev put_bench : Bench W
   put_bench = record b { writes = slots_with k log b.writes }
 
-  hits-alike : (j : ℕ) (x : Head) → HeadBounds x → abort_if_hit put_bench k (hit_by_store kit.line c) j x ≡ abort_if_hit b k (hit_by_store kit.line c) j x
+  hits-alike : (j : ℕ) (x : Head) → HeadBounds x → abort_if_hit put_bench k (hit_by_store memory.line c) j x ≡ abort_if_hit b k (hit_by_store memory.line c) j x
   hits-alike j x bounds =
-      by-test (eqb j k) (λ t. cond (not t && (is_hardware x.state && hit_by_store kit.line c (log_of j x.read_count b.reads) (log_of j x.write_count (slots_with k log b.writes)))) (abort Conflict x) x ≡ cond (not t && (is_hardware x.state && hit_by_store kit.line c (log_of j x.read_count b.reads) (log_of j x.write_count b.writes))) (abort Conflict x) x)
+      by-test (eqb j k) (λ t. cond (not t && (is_hardware x.state && hit_by_store memory.line c (log_of j x.read_count b.reads) (log_of j x.write_count (slots_with k log b.writes)))) (abort Conflict x) x ≡ cond (not t && (is_hardware x.state && hit_by_store memory.line c (log_of j x.read_count b.reads) (log_of j x.write_count b.writes))) (abort Conflict x) x)
       (λ _. refl)
-      (λ ne. ap (λ l. cond (is_hardware x.state && hit_by_store kit.line c (log_of j x.read_count b.reads) l) (abort Conflict x) x) (log-laid-other k log b.writes few room j x.write_count (eqb-false j k ne) bounds.writes))
+      (λ ne. ap (λ l. cond (is_hardware x.state && hit_by_store memory.line c (log_of j x.read_count b.reads) l) (abort Conflict x) x) (log-laid-other k log b.writes few room j x.write_count (eqb-false j k ne) bounds.writes))
 
   stored-put : (h : Head) → h.write_count ≡ length log → h.read_count ≡ (head_at b k).read_count → All HeadBounds b.table.heads
-      → stored kit put_bench k h c ≡ hardware_write kit b k c log h
+      → stored memory put_bench k h c ≡ hardware_write memory b k c log h
   stored-put h en er all =
       let own : log_of k h.write_count (slots_with k log b.writes) ≡ log = ap (λ n. log_of k n (slots_with k log b.writes)) en ∙ log-laid-own k log b.writes few room (length log) (omega arith) ∙ take_all (length log) log (omega arith) in
-      let alike : after_store kit put_bench k c ≡ after_store kit b k c = map_alike HeadBounds _ _ 0 b.table.heads hits-alike all in
-      ap (λ l. by l h.read_count (after_store kit put_bench k c)) own ∙ ap (λ r. by log r (after_store kit put_bench k c)) er
+      let alike : after_store memory put_bench k c ≡ after_store memory b k c = map_alike HeadBounds _ _ 0 b.table.heads hits-alike all in
+      ap (λ l. by l h.read_count (after_store memory put_bench k c)) own ∙ ap (λ r. by log r (after_store memory put_bench k c)) er
       ∙ ap (λ ys. by log (head_at b k).read_count ys) alike
     where
       by : List (Slot W) → ℕ → List Head → Outcome (Unit {0}) W
       by l r ys =
-          cond (kit.fits h.stores (distinct_count (lines_of kit.line (log_of k r b.reads ++ l))))
+          cond (memory.fits h.stores (distinct_count (lines_of memory.line (log_of k r b.reads ++ l))))
           (outcome (Ok tt) (record put_bench { table = record b.table { heads = set ys k h } }))
           (outcome (Err (refuse.Aborted Capacity)) (record put_bench { table = record b.table { heads = set b.table.heads k (abort Capacity h) } }))
 
 -- the rows that are left of a write's
-module _ {W : Type 0} (kit : Kit W) (b : Bench W) (who : Caller) (c : ℕ) (w : W) (me : Head) (adm : Admits b who (Write c w) me) where
+module _ {W : Type 0} (memory : Memory W) (b : Bench W) (who : Caller) (c : ℕ) (w : W) (me : Head) (adm : Admits b who (Write c w) me) where
   abbrev k : ℕ
   k = who.head
 
@@ -78,19 +78,19 @@ module _ {W : Type 0} (kit : Kit W) (b : Bench W) (who : Caller) (c : ℕ) (w : 
 
   abbrev granted : Head → Outcome (Unit {0}) W
   granted x =
-      cond (is_hardware x.state) (hardware_write kit b k c (put c w (wlog x)) (wrote x (length (put c w (wlog x)))))
-      (puts_word kit b k (Ok tt) (put c w (wlog x)) b.table.heads (wrote x (length (put c w (wlog x)))))
+      cond (is_hardware x.state) (hardware_write memory b k c (put c w (wlog x)) (wrote x (length (put c w (wlog x)))))
+      (puts_word memory b k (Ok tt) (put c w (wlog x)) b.table.heads (wrote x (length (put c w (wlog x)))))
 
   abbrev left : Head → Option Refusal
   left x = first_found (when false refuse.Busy ∷ when (lacks_room_for c (wlog x)) refuse.Full ∷ when false refuse.OutOfTransactions ∷ when false refuse.OutOfAttempts ∷ [])
 
-  write-is : write_of kit b who c w ≡ unless (left me) b (granted me)
+  write-is : write_of memory b who c w ≡ unless (left me) b (granted me)
   write-is = ap (λ o. unless o b (granted (head_at b k))) adm.rows ∙ ap (λ x. unless (left x) b (granted x)) (sym adm.own)
 
   -- in hardware, put first and then stored
   pub write_stored : (o : Outcome (Unit {0}) W) (h : Head) (n : ℕ) (ws : List (Slot W)) → All HeadBounds b.table.heads
       → lacks_room_for c (wlog me) ≡ false → is_hardware me.state ≡ true
-      → n ≡ length new → h ≡ wrote me n → ws ≡ slots_with k new b.writes → o ≡ stored kit (bench b.table b.cells b.reads ws) k h c → o ≡ write_of kit b who c w
+      → n ≡ length new → h ≡ wrote me n → ws ≡ slots_with k new b.writes → o ≡ stored memory (bench b.table b.cells b.reads ws) k h c → o ≡ write_of memory b who c w
   write_stored o h n ws all room hard en eh ew q =
       let short = length-log k me.write_count b.writes in
       let le = adm.bounds.writes in
@@ -98,9 +98,9 @@ module _ {W : Type 0} (kit : Kit W) (b : Bench W) (who : Caller) (c : ℕ) (w : 
       let lt = adm.head in
       let size = adm.writes in
       let within : 32 * k + 32 ≤ length b.writes = omega (arith, lt, size) in
-      q ∙ ap (λ x. stored kit (bench b.table b.cells b.reads x) k h c) ew
-      ∙ ap (λ x. stored kit (bench b.table b.cells b.reads (slots_with k new b.writes)) k x c) (eh ∙ ap (wrote me) en)
-      ∙ stored-put kit b k c new few within (wrote me (length new)) refl (ap (λ (x : Head). x.read_count) adm.own) all
+      q ∙ ap (λ x. stored memory (bench b.table b.cells b.reads x) k h c) ew
+      ∙ ap (λ x. stored memory (bench b.table b.cells b.reads (slots_with k new b.writes)) k x c) (eh ∙ ap (wrote me) en)
+      ∙ stored-put memory b k c new few within (wrote me (length new)) refl (ap (λ (x : Head). x.read_count) adm.own) all
       ∙ sym (write-is ∙ rw (room, hard) refl)
 
   not-back : (s : State) → (is_hardware s || is_software s) ≡ true → is_writing_back s ≡ false

@@ -5,7 +5,7 @@ ghost use Rattle.rules.specs.Bench.{bench};
 ghost use Rattle.rules.specs.Bounds.{InBounds};
 ghost use Rattle.rules.specs.Calls.{outcome, close_of, software_close};
 ghost use Rattle.rig.specs.Admission.{Admits};
-ghost use Rattle.rig.specs.Kits.{PolicyParts, kit_under};
+ghost use Rattle.rules.specs.Kit.{memory_of};
 
 use crate::admission::admit;
 use crate::heads::{abort, is_hardware, is_locked, present_snapshot};
@@ -27,9 +27,8 @@ fn close_in_software<B: Board, W: Word>(
 ) -> Result<Closing, Refusal>
     requires bounds { InBounds table.old }
     requires admitted { Admits (bench table.old cells.now reads.now writes.now) who calls.Close me }
-    ensures { (p : PolicyParts) →
-        outcome result (bench table.new cells.now reads.now writes.now)
-        ≡ software_close (kit_under p W.Word B.Board board.now) (bench table.old cells.now reads.now writes.now) who.head }
+    ensures { outcome result (bench table.new cells.now reads.now writes.now)
+        ≡ software_close (memory_of W.Word B.Board board.now) (bench table.old cells.now reads.now writes.now) who.head }
 {
     let found = revalidate(table, who.head, cells, reads);
     let access = Loads {
@@ -62,9 +61,8 @@ pub(crate) fn close<B: Board, W: Word>(
     writes: &[Slot<W>],
 ) -> Result<Closing, Refusal>
     requires { InBounds table.old }
-    ensures { (p : PolicyParts) →
-        outcome result (bench table.new cells.new reads.now writes.now)
-        ≡ close_of (kit_under p W.Word B.Board board.now) (bench table.old cells.old reads.now writes.now) who }
+    ensures { outcome result (bench table.new cells.new reads.now writes.now)
+        ≡ close_of (memory_of W.Word B.Board board.now) (bench table.old cells.old reads.now writes.now) who }
 {
     let me = admit(table, who, Call::Close, cells, reads, writes)?;
     let log = Log::of_head(writes, who.head, me.write_count);

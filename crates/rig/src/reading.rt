@@ -7,7 +7,7 @@ ghost use Rattle.rules.specs.Bounds.{InBounds};
 ghost use Rattle.rules.specs.Calls.{outcome, read_of, hardware_read, software_read};
 ghost use Rattle.rules.specs.Logs.{lacks_room_for, lines_touched_with, log_of};
 ghost use Rattle.rig.specs.Admission.{Admits};
-ghost use Rattle.rig.specs.Kits.{PolicyParts, kit_under};
+ghost use Rattle.rules.specs.Kit.{memory_of};
 
 use crate::admission::admit;
 use crate::heads::{abort, is_hardware, must_wait, present_snapshot};
@@ -52,9 +52,9 @@ fn read_in_hardware<B: Board, W: Word>(
     requires bounds { InBounds table.old }
     requires admitted { Admits (bench table.old cells.now reads.old writes.now) who (calls.Read cell) me }
     requires room { lacks_room_for cell (log_of who.head me.read_count reads.old) ≡ false }
-    ensures { (p : PolicyParts) (w : W) →
+    ensures { (w : W) →
         slice_get cells.now cell ≡ Some w → outcome result (bench table.new cells.now reads.new writes.now)
-        ≡ hardware_read (kit_under p W.Word B.Board board.now) (bench table.old cells.now reads.old writes.now) who.head cell w }
+        ≡ hardware_read (memory_of W.Word B.Board board.now) (bench table.old cells.now reads.old writes.now) who.head cell w }
 {
     if !fits_with(board, who.head, me, cell, reads, writes) {
         table.heads[who.head as usize] = abort(me, Cause::Capacity);
@@ -92,9 +92,9 @@ fn read_in_software<B: Board, W: Word>(
     requires bounds { InBounds table.old }
     requires admitted { Admits (bench table.old cells.now reads.old writes.now) who (calls.Read cell) me }
     requires room { lacks_room_for cell (log_of who.head me.read_count reads.old) ≡ false }
-    ensures { (p : PolicyParts) (w : W) →
+    ensures { (w : W) →
         slice_get cells.now cell ≡ Some w → outcome result (bench table.new cells.now reads.new writes.now)
-        ≡ software_read (kit_under p W.Word B.Board board.now) (bench table.old cells.now reads.old writes.now) who.head cell w }
+        ≡ software_read (memory_of W.Word B.Board board.now) (bench table.old cells.now reads.old writes.now) who.head cell w }
 {
     let found = revalidate(table, who.head, cells, reads);
     let access = Loads {
@@ -128,9 +128,8 @@ pub(crate) fn read<B: Board, W: Word>(
     writes: &[Slot<W>],
 ) -> Result<W, Refusal>
     requires { InBounds table.old }
-    ensures { (p : PolicyParts) →
-        outcome result (bench table.new cells.now reads.new writes.now)
-        ≡ read_of (kit_under p W.Word B.Board board.now) (bench table.old cells.now reads.old writes.now) who cell }
+    ensures { outcome result (bench table.new cells.now reads.new writes.now)
+        ≡ read_of (memory_of W.Word B.Board board.now) (bench table.old cells.now reads.old writes.now) who cell }
 {
     let me = admit(table, who, Call::Read(cell), cells, reads, writes)?;
     let write_log = Log::of_head(writes, who.head, me.write_count);

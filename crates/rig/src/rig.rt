@@ -114,7 +114,7 @@ impl<B: Board, P: Policy> Rig<B, P> {
     ) -> Result<W, Refusal>
         ensures outcome { let kit = kit_of W.Word B.Board P.Policy self.old.board self.old.policy in
             let before = bench self.old.table cells.now reads.old writes.now in
-            outcome result (bench self.new.table cells.now reads.new writes.now) ≡ read_of kit before who cell }
+            outcome result (bench self.new.table cells.now reads.new writes.now) ≡ read_of kit.memory before who cell }
         ensures lengths { lengths_match (bench self.new.table cells.now reads.new writes.now)
             ≡ lengths_match (bench self.old.table cells.now reads.old writes.now) }
         ensures kept { (self.new.board ≡ self.old.board) × (self.new.policy ≡ self.old.policy) }
@@ -142,7 +142,7 @@ impl<B: Board, P: Policy> Rig<B, P> {
     ) -> Result<(), Refusal>
         ensures outcome { let kit = kit_of W.Word B.Board P.Policy self.old.board self.old.policy in
             let before = bench self.old.table cells.now reads.now writes.old in
-            outcome result (bench self.new.table cells.now reads.now writes.new) ≡ write_of kit before who cell word }
+            outcome result (bench self.new.table cells.now reads.now writes.new) ≡ write_of kit.memory before who cell word }
         ensures lengths { lengths_match (bench self.new.table cells.now reads.now writes.new)
             ≡ lengths_match (bench self.old.table cells.now reads.now writes.old) }
         ensures kept { (self.new.board ≡ self.old.board) × (self.new.policy ≡ self.old.policy) }
@@ -169,7 +169,7 @@ impl<B: Board, P: Policy> Rig<B, P> {
     ) -> Result<Closing, Refusal>
         ensures outcome { let kit = kit_of W.Word B.Board P.Policy self.old.board self.old.policy in
             let before = bench self.old.table cells.old reads.now writes.now in
-            outcome result (bench self.new.table cells.new reads.now writes.now) ≡ close_of kit before who }
+            outcome result (bench self.new.table cells.new reads.now writes.now) ≡ close_of kit.memory before who }
         ensures lengths { lengths_match (bench self.new.table cells.new reads.now writes.now)
             ≡ lengths_match (bench self.old.table cells.old reads.now writes.now) }
         ensures kept { (self.new.board ≡ self.old.board) × (self.new.policy ≡ self.old.policy) }
@@ -221,7 +221,7 @@ impl<B: Board, P: Policy> Rig<B, P> {
     ) -> Result<Mode, Refusal>
         ensures outcome { let kit = kit_of W.Word B.Board P.Policy self.old.board self.old.policy in
             let before = bench self.old.table cells.now reads.now writes.now in
-            outcome result (bench self.new.table cells.now reads.now writes.now) ≡ again_of kit before who }
+            outcome result (bench self.new.table cells.now reads.now writes.now) ≡ again_of kit.policy before who }
         ensures lengths { lengths_match (bench self.new.table cells.now reads.now writes.now)
             ≡ lengths_match (bench self.old.table cells.now reads.now writes.now) }
         ensures kept { (self.new.board ≡ self.old.board) × (self.new.policy ≡ self.old.policy) }

@@ -3,7 +3,7 @@ ghost use Rattle.std.specs.Prelude.{◌≡◌};
 ghost use Rattle.parts.specs.declared.types.Mode.{Mode as Modes};
 ghost use Rattle.rules.specs.Bench.{bench};
 ghost use Rattle.rules.specs.Bounds.{InBounds};
-ghost use Rattle.rules.specs.Kit.{Kit};
+ghost use Rattle.rules.specs.Kit.{retries_of};
 ghost use Rattle.rules.specs.Calls.{outcome, open_of, jolt_of, drop_of, again_of};
 
 use crate::admission::admit;
@@ -88,9 +88,8 @@ pub(crate) fn again<P: Policy, W: Word>(
     writes: &[Slot<W>],
 ) -> Result<Mode, Refusal>
     requires { InBounds table.old }
-    ensures { (kit : Kit W) →
-        kit.next ≡ P.Policy.next policy.now → outcome result (bench table.new cells.now reads.now writes.now)
-        ≡ again_of kit (bench table.old cells.now reads.now writes.now) who }
+    ensures { outcome result (bench table.new cells.now reads.now writes.now)
+        ≡ again_of (retries_of P.Policy policy.now) (bench table.old cells.now reads.now writes.now) who }
 {
     let me = admit(table, who, Call::Again, cells, reads, writes)?;
     if is_locked(table) {

@@ -1,7 +1,7 @@
 // Validation of what a software attempt has read.
 ghost use Rattle.std.specs.Prelude.{◌≡◌, ◌<◌, List, length, map};
 ghost use Rattle.rules.specs.declared.types.Slot.{Slot as SlotRecord};
-ghost use Rattle.rules.specs.Kit.{Kit};
+ghost use Rattle.rules.specs.Kit.{Memory};
 ghost use Rattle.rules.specs.Bench.{bench, is_valid, cells_validated};
 
 use crate::heads::present_snapshot;
@@ -18,10 +18,10 @@ pub(crate) fn revalidate<'a, W: Word>(
 ) -> Validation<'a, W>
     requires eight { length table.now.heads ≡ 8 }
     requires head { head < 8 }
-    ensures valid { (kit : Kit W) (writes : List (SlotRecord W)) → kit.same ≡ W.Word.same → result.valid
-        ≡ is_valid kit (bench table.now cells.now reads.now writes) head }
-    ensures loaded { (kit : Kit W) (writes : List (SlotRecord W)) → kit.same ≡ W.Word.same → map (λ s. s.cell) result.loaded.slots.now
-        ≡ cells_validated kit (bench table.now cells.now reads.now writes) head }
+    ensures valid { (memory : Memory W) (writes : List (SlotRecord W)) → memory.same ≡ W.Word.same → result.valid
+        ≡ is_valid memory (bench table.now cells.now reads.now writes) head }
+    ensures loaded { (memory : Memory W) (writes : List (SlotRecord W)) → memory.same ≡ W.Word.same → map (λ s. s.cell) result.loaded.slots.now
+        ≡ cells_validated memory (bench table.now cells.now reads.now writes) head }
 {
     let me = table.heads[head as usize];
     let log = Log::of_head(reads, head, me.read_count);

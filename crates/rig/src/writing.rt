@@ -5,7 +5,7 @@ ghost use Rattle.rules.specs.Bounds.{HeadBounds, InBounds};
 ghost use Rattle.rules.specs.Calls.{outcome, write_of};
 ghost use Rattle.rules.specs.Heads.{stores_after};
 ghost use Rattle.rules.specs.Logs.{lines_touched, log_of};
-ghost use Rattle.rig.specs.Kits.{PolicyParts, kit_under};
+ghost use Rattle.rules.specs.Kit.{memory_of};
 ghost use Rattle.rig.specs.Stores.{stored};
 
 use crate::admission::admit;
@@ -61,9 +61,9 @@ fn store<B: Board, W: Word>(
     requires head { head < 8 }
     requires own { HeadBounds me }
     requires others { All HeadBounds table.old.heads }
-    ensures { (p : PolicyParts) (cells : List W) →
+    ensures { (cells : List W) →
         outcome result (bench table.new cells reads.now writes.now)
-        ≡ stored (kit_under p W.Word B.Board board.now) (bench table.old cells reads.now writes.now) head me cell }
+        ≡ stored (memory_of W.Word B.Board board.now) (bench table.old cells reads.now writes.now) head me cell }
 {
     if !fits(board, head, me, reads, writes) {
         table.heads[head as usize] = abort(me, Cause::Capacity);
@@ -93,9 +93,8 @@ pub(crate) fn write<B: Board, W: Word>(
     writes: &mut [Slot<W>],
 ) -> Result<(), Refusal>
     requires { InBounds table.old }
-    ensures { (p : PolicyParts) →
-        outcome result (bench table.new cells.now reads.now writes.new)
-        ≡ write_of (kit_under p W.Word B.Board board.now) (bench table.old cells.now reads.now writes.old) who cell word }
+    ensures { outcome result (bench table.new cells.now reads.now writes.new)
+        ≡ write_of (memory_of W.Word B.Board board.now) (bench table.old cells.now reads.now writes.old) who cell word }
 {
     let me = admit(table, who, Call::Write(cell, word), cells, reads, writes)?;
     let log = Log::of_head(writes, who.head, me.write_count);

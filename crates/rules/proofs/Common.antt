@@ -68,17 +68,17 @@ module _ {W : Type 0} (kit : Kit W) (law : Lawful kit) (start : List W) (b : Ben
   settled-all even = (inv.calm even).settled ∙ ap (λ cs. cells_after cs start) (sym (take_all (length l.closes) l.closes (omega arith)))
 
   -- a software head that goes on has valid reads
-  pub sound-valid : is_software me.head.state ≡ true → is_valid kit b h ≡ true → Agrees m.cells me.reads
+  pub sound-valid : is_software me.head.state ≡ true → is_valid kit.memory b h ≡ true → Agrees m.cells me.reads
   sound-valid software e =
       ⊎_elim
-      (λ (f : is_current kit b h ≡ true).
+      (λ (f : is_current kit.memory b h ≡ true).
       let both = and_parts (eqb me.head.snapshot.sequence m.sequence) (eqb me.head.snapshot.commits m.commits) f in
       ((inv.heads h me at).software software).valid (eqb-true me.head.snapshot.sequence m.sequence both.0) (eqb-true me.head.snapshot.commits m.commits both.1))
-      (λ (c : list_all (holds kit.same b.cells) me.reads ≡ true). check-agrees kit law b.cells me.reads c)
-      (or_cases (is_current kit b h) (list_all (holds kit.same b.cells) me.reads) e)
+      (λ (c : list_all (holds kit.memory.same b.cells) me.reads ≡ true). check-agrees kit law b.cells me.reads c)
+      (or_cases (is_current kit.memory b h) (list_all (holds kit.memory.same b.cells) me.reads) e)
 
   -- a software head aborts only after a close with writes of another head
-  pub charged : (software : is_software me.head.state ≡ true) → is_odd m.sequence ≡ false → is_valid kit b h ≡ false
+  pub charged : (software : is_software me.head.state ≡ true) → is_odd m.sequence ≡ false → is_valid kit.memory b h ≡ false
       → me.head.attempts ≤ me.head.hardware_aborts + closes_of_others l.closes h (l.pages h).since (length l.closes)
   charged software even unsound =
       let o = inv.heads h me at in
@@ -97,14 +97,14 @@ module _ {W : Type 0} (kit : Kit W) (law : Lawful kit) (start : List W) (b : Ben
       sym (after-quiet h (drop p l.closes) (cells_after (take p l.closes) start) others none) ∙ sym (after-append (take p l.closes) (drop p l.closes) start)
       ∙ ap (λ cs. cells_after cs start) (take-append-drop p l.closes) ∙ sym (inv.calm even).settled in
       let valid : Agrees m.cells me.reads = subst (λ xs. Agrees xs me.reads) now s.valid-then in
-      wrong (sym (or_parts (is_current kit b h) (list_all (holds kit.same b.cells) me.reads) unsound).1 ∙ agrees-check kit law b.cells me.reads valid))
+      wrong (sym (or_parts (is_current kit.memory b h) (list_all (holds kit.memory.same b.cells) me.reads) unsound).1 ∙ agrees-check kit law b.cells me.reads valid))
       (cases_lt 0 (length (filter (is_other h) (drop p l.closes)))) in
       let more = count-charge l.closes h since p s.since s.within one in
       omega (arith, s.budget)
 
   -- a software head whose validation fails
-  pub changed : is_software me.head.state ≡ true → is_odd m.sequence ≡ false → is_valid kit b h ≡ false
-      → Inv kit start (record { heads = set (map (loaded kit (cells_validated kit b h)) m.heads) h (abort_seat Changed me); sequence = m.sequence; commits = m.commits; cells = m.cells }) l
+  pub changed : is_software me.head.state ≡ true → is_odd m.sequence ≡ false → is_valid kit.memory b h ≡ false
+      → Inv kit start (record { heads = set (map (loaded kit (cells_validated kit.memory b h)) m.heads) h (abort_seat Changed me); sequence = m.sequence; commits = m.commits; cells = m.cells }) l
   changed software even unsound =
       let o = inv.heads h me at in
       let s = o.software software in
@@ -112,8 +112,8 @@ module _ {W : Type 0} (kit : Kit W) (law : Lawful kit) (start : List W) (b : Ben
       let plain = going-plain me.head.state (running-going me.head.state running) in
       let budget = charged software even unsound in
       let aborts : cond (is_hardware me.head.state) (me.head.hardware_aborts + 1) me.head.hardware_aborts ≡ me.head.hardware_aborts = cond-false (is_hardware me.head.state) (me.head.hardware_aborts + 1) me.head.hardware_aborts (software-not-hardware me.head.state software) in
-      quiet_at kit start m l inv h me at (abort_seat Changed me) (loaded kit (cells_validated kit b h)) l.pages (l.pages h) l.past l.ended
-      (struck-hit (hit_by_loads kit.line (cells_validated kit b h))) (λ k ne. refl) refl
+      quiet_at kit start m l inv h me at (abort_seat Changed me) (loaded kit (cells_validated kit.memory b h)) l.pages (l.pages h) l.past l.ended
+      (struck-hit (hit_by_loads kit.memory.line (cells_validated kit.memory b h))) (λ k ne. refl) refl
       (record {
         attempts = o.attempts;
         since = o.since;
@@ -131,5 +131,5 @@ module _ {W : Type 0} (kit : Kit W) (law : Lawful kit) (start : List W) (b : Ben
       → Inv kit start (record { heads = set (map (λ (o : Seat W). o) m.heads) h (abort_seat cause me); sequence = m.sequence; commits = m.commits; cells = m.cells }) l
   struck-self cause hardware =
       quiet_at kit start m l inv h me at (abort_seat cause me) (λ o. o) l.pages (l.pages h) l.past l.ended struck-same (λ k ne. refl) refl
-      (head-aborts kit.patience start m.sequence m.commits m.cells l.closes h me (l.pages h) cause hardware (inv.heads h me at))
+      (head-aborts kit.policy.patience start m.sequence m.commits m.cells l.closes h me (l.pages h) cause hardware (inv.heads h me at))
       (hardware-not-writing me.head.state hardware) refl (λ _. refl) (λ k it there ne hm. wrong hm) inv.past (inv.present h) inv.ended (inv.bound h)

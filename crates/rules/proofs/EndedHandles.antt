@@ -144,7 +144,7 @@ module _ {W : Type 0} (kit : Kit W) (b : Bench W) (bounds : InBounds b.table) (w
       by-close kit b k (λ (o : Outcome Closing W). (with_answer granted.Closed o).0 ≡ Ok g → Ended (leaves_pushes g) k n o.left)
       (λ _ q. ends-with Close a b.table.heads (swept_none b.table.heads) _ _ g q (inr (same, refl)))
       (λ q. ends-with Close a b.table.heads (swept_none b.table.heads) _ _ g q (inr (same, refl)))
-      (λ _ _ q. ends-with Close a (map lock_out (after_loads kit b k (cells_validated kit b k))) (swept-lock kit b k (cells_validated kit b k)) _ _ g q (inr (same, refl)))
+      (λ _ _ q. ends-with Close a (map lock_out (after_loads kit.memory b k (cells_validated kit.memory b k))) (swept-lock kit b k (cells_validated kit.memory b k)) _ _ g q (inr (same, refl)))
       (λ ys p q. cc)
 
   ends-granted : (call : Call ℕ W) → Admitted b who call → (g : Granted W) → n ≡ me.transaction → ends call ≡ true → (admitted_of kit b k call).0 ≡ Ok g

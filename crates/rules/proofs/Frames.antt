@@ -172,7 +172,7 @@ module _ {W : Type 0} (kit : Kit W) (start : List W) (m : Rig W) (l : History W)
       → slice_get m.heads h ≡ Some me
       → ((o : Seat W) → Struck o (f o))
       → ((k : ℕ) → (k ≡ h → ⊥) → pages k ≡ l.pages k)
-      → HeadOk kit.patience start m.sequence m.commits m.cells l.closes h me' (pages h)
+      → HeadOk kit.policy.patience start m.sequence m.commits m.cells l.closes h me' (pages h)
       → is_writing_back me.head.state ≡ false
       → is_writing_back me'.head.state ≡ false
       → (is_odd m.sequence ≡ true → is_hardware me'.head.state ≡ false)
@@ -180,18 +180,18 @@ module _ {W : Type 0} (kit : Kit W) (start : List W) (m : Rig W) (l : History W)
       → is_hardware (f it).head.state ≡ true → Clear kit me' it × Clear kit it me')
       → All (Explained l.closes start) past
       → Explained l.closes start (pages h).attempt
-      → All (Bounded l.closes kit.patience) ended
-      → ((pages h).attempts ≤ most_attempts kit.patience (closes_of_others l.closes h (pages h).since (length l.closes)))
+      → All (Bounded l.closes kit.policy.patience) ended
+      → ((pages h).attempts ≤ most_attempts kit.policy.patience (closes_of_others l.closes h (pages h).since (length l.closes)))
       → Inv kit start (record { heads = set (map f m.heads) h me'; sequence = m.sequence; commits = m.commits; cells = m.cells })
       (record { closes = l.closes; pages = pages; past = past; ended = ended })
   quiet h me me' f pages past ended at struck others ok plain plain' calm-hardware clear pasts presents endeds bounds = record {
     calm = λ e. calm-kept m.heads m.cells _ h me me' f at struck plain' (inv.calm e);
     lone = λ e. lone-kept m.heads m.cells _ h me me' f at struck plain plain' (calm-hardware e) (inv.lone e);
     heads =
-        after-each f m.heads h me' me at (λ k x. HeadOk kit.patience start m.sequence m.commits m.cells l.closes k x (pages k)) ok
+        after-each f m.heads h me' me at (λ k x. HeadOk kit.policy.patience start m.sequence m.commits m.cells l.closes k x (pages k)) ok
         (λ k y there ne.
-        subst (HeadOk kit.patience start m.sequence m.commits m.cells l.closes k (f y)) (sym (others k ne))
-        (head-struck kit.patience start m.sequence m.commits m.cells l.closes k y (f y) (l.pages k) (struck y) (inv.heads k y there)));
+        subst (HeadOk kit.policy.patience start m.sequence m.commits m.cells l.closes k (f y)) (sym (others k ne))
+        (head-struck kit.policy.patience start m.sequence m.commits m.cells l.closes k y (f y) (l.pages k) (struck y) (inv.heads k y there)));
     clear =
         λ j k x y atj atk ne hx hy.
         after-each f m.heads h me' me at
@@ -221,8 +221,8 @@ module _ {W : Type 0} (kit : Kit W) (start : List W) (m : Rig W) (l : History W)
     bound =
         λ k.
         ⊎_elim
-        (λ (e : k ≡ h). subst (λ i. (pages i).attempts ≤ most_attempts kit.patience (closes_of_others l.closes i (pages i).since (length l.closes))) (sym e) bounds)
-        (λ (ne : k ≡ h → ⊥). subst (λ p. p.attempts ≤ most_attempts kit.patience (closes_of_others l.closes k p.since (length l.closes))) (sym (others k ne)) (inv.bound k))
+        (λ (e : k ≡ h). subst (λ i. (pages i).attempts ≤ most_attempts kit.policy.patience (closes_of_others l.closes i (pages i).since (length l.closes))) (sym e) bounds)
+        (λ (ne : k ≡ h → ⊥). subst (λ p. p.attempts ≤ most_attempts kit.policy.patience (closes_of_others l.closes k p.since (length l.closes))) (sym (others k ne)) (inv.bound k))
         (cases_eq k h);
   }
 
@@ -238,16 +238,16 @@ module _ {W : Type 0} (kit : Kit W) (start : List W) (m : Rig W) (l : History W)
       → m.sequence ≤ S
       → m.commits ≤ C
       → ((k : ℕ) (o : Seat W) → slice_get m.heads k ≡ Some o → (k ≡ h → ⊥) → is_hardware o.head.state ≡ true → is_hardware (f o).head.state ≡ true → Agrees cells o.reads)
-      → ((k : ℕ) (o : Seat W) → slice_get m.heads k ≡ Some o → SoftwareOk kit.patience start m.sequence m.commits m.cells l.closes k o (l.pages k)
+      → ((k : ℕ) (o : Seat W) → slice_get m.heads k ≡ Some o → SoftwareOk kit.policy.patience start m.sequence m.commits m.cells l.closes k o (l.pages k)
       → o.head.snapshot.sequence ≡ S → o.head.snapshot.commits ≡ C → Agrees cells o.reads)
-      → HeadOk kit.patience start S C cells closes h me' page
+      → HeadOk kit.policy.patience start S C cells closes h me' page
       → is_hardware me'.head.state ≡ false
       → (is_odd S ≡ false → Calm (set (map f m.heads) h me') cells (cells_after closes start))
       → (is_odd S ≡ true → Lone (set (map f m.heads) h me') cells (cells_after closes start))
       → All (Explained l.closes start) past
       → Explained closes start page.attempt
-      → All (Bounded closes kit.patience) ended
-      → (page.attempts ≤ most_attempts kit.patience (closes_of_others closes h page.since (length closes)))
+      → All (Bounded closes kit.policy.patience) ended
+      → (page.attempts ≤ most_attempts kit.policy.patience (closes_of_others closes h page.since (length closes)))
       → Inv kit start (record { heads = set (map f m.heads) h me'; sequence = S; commits = C; cells = cells })
       (record { closes = closes; pages = pages; past = past; ended = ended })
   moving h me me' f S C cells new closes pages page past ended at struck others here grown apart le_s le_c hardv softv ok rigid calm lone pasts presents endeds bounds =
@@ -256,13 +256,13 @@ module _ {W : Type 0} (kit : Kit W) (start : List W) (m : Rig W) (l : History W)
         calm = calm;
         lone = lone;
         heads =
-            after-each f m.heads h me' me at (λ k x. HeadOk kit.patience start S C cells closes k x (pages k))
-            (subst (HeadOk kit.patience start S C cells closes h me') (sym here) ok)
+            after-each f m.heads h me' me at (λ k x. HeadOk kit.policy.patience start S C cells closes k x (pages k))
+            (subst (HeadOk kit.policy.patience start S C cells closes h me') (sym here) ok)
             (λ k y there ne.
-            let aborts = head-struck kit.patience start m.sequence m.commits m.cells l.closes k y (f y) (l.pages k) (struck y) (inv.heads k y there) in
-            subst (HeadOk kit.patience start S C cells closes k (f y)) (sym (others k ne))
-            (subst (λ cs. HeadOk kit.patience start S C cells cs k (f y) (l.pages k)) (sym grown)
-            (head-moved kit.patience start m.sequence m.commits m.cells l.closes S C cells new k (f y) (l.pages k) (apart k ne) le_s le_c
+            let aborts = head-struck kit.policy.patience start m.sequence m.commits m.cells l.closes k y (f y) (l.pages k) (struck y) (inv.heads k y there) in
+            subst (HeadOk kit.policy.patience start S C cells closes k (f y)) (sym (others k ne))
+            (subst (λ cs. HeadOk kit.policy.patience start S C cells cs k (f y) (l.pages k)) (sym grown)
+            (head-moved kit.policy.patience start m.sequence m.commits m.cells l.closes S C cells new k (f y) (l.pages k) (apart k ne) le_s le_c
             (λ hf. let same = struck-hardware y (f y) (struck y) hf in
             let was : is_hardware y.head.state ≡ true = subst (λ z. is_hardware z.head.state ≡ true) same hf in
             subst (λ z. Agrees cells z.reads) (sym same) (hardv k y there ne was hf))
@@ -294,17 +294,17 @@ module _ {W : Type 0} (kit : Kit W) (start : List W) (m : Rig W) (l : History W)
         bound =
             λ k.
             ⊎_elim
-            (λ (e : k ≡ h). subst (λ i. (pages i).attempts ≤ most_attempts kit.patience (closes_of_others closes i (pages i).since (length closes))) (sym e)
-            (subst (λ p. p.attempts ≤ most_attempts kit.patience (closes_of_others closes h p.since (length closes))) (sym here) bounds))
-            (λ (ne : k ≡ h → ⊥). subst (λ p. p.attempts ≤ most_attempts kit.patience (closes_of_others closes k p.since (length closes))) (sym (others k ne))
-            (subst (λ cs. (l.pages k).attempts ≤ most_attempts kit.patience (closes_of_others cs k (l.pages k).since (length cs))) (sym grown)
+            (λ (e : k ≡ h). subst (λ i. (pages i).attempts ≤ most_attempts kit.policy.patience (closes_of_others closes i (pages i).since (length closes))) (sym e)
+            (subst (λ p. p.attempts ≤ most_attempts kit.policy.patience (closes_of_others closes h p.since (length closes))) (sym here) bounds))
+            (λ (ne : k ≡ h → ⊥). subst (λ p. p.attempts ≤ most_attempts kit.policy.patience (closes_of_others closes k p.since (length closes))) (sym (others k ne))
+            (subst (λ cs. (l.pages k).attempts ≤ most_attempts kit.policy.patience (closes_of_others cs k (l.pages k).since (length cs))) (sym grown)
             (let more = count-grown l.closes new k (l.pages k).since in omega (arith, inv.bound k))))
             (cases_eq k h);
       }
     where
       -- a software head is as it was
       software-case : (k : ℕ) (y : Seat W) → slice_get m.heads k ≡ Some y → Struck y (f y)
-          → SoftwareOk kit.patience start m.sequence m.commits m.cells l.closes k (f y) (l.pages k) → (f y).head.snapshot.sequence ≡ S → (f y).head.snapshot.commits ≡ C → Agrees cells (f y).reads
+          → SoftwareOk kit.policy.patience start m.sequence m.commits m.cells l.closes k (f y) (l.pages k) → (f y).head.snapshot.sequence ≡ S → (f y).head.snapshot.commits ≡ C → Agrees cells (f y).reads
       software-case k y there (inl e) =
-          subst (λ z. SoftwareOk kit.patience start m.sequence m.commits m.cells l.closes k z (l.pages k) → z.head.snapshot.sequence ≡ S → z.head.snapshot.commits ≡ C → Agrees cells z.reads) (sym e) (softv k y there)
+          subst (λ z. SoftwareOk kit.policy.patience start m.sequence m.commits m.cells l.closes k z (l.pages k) → z.head.snapshot.sequence ≡ S → z.head.snapshot.commits ≡ C → Agrees cells z.reads) (sym e) (softv k y there)
       software-case k y there (inr r) = λ _ _ _. subst (λ z. Agrees cells z.reads) (sym r.2) (All-nil _)

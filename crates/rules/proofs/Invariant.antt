@@ -79,10 +79,10 @@ Clear kit me it = All (λ s. meets kit s.cell it.reads ≡ false) me.writes
 pub record Inv {W : Type 0} (kit : Kit W) (start : List W) (m : Rig W) (l : History W) : Type 0 where
   pub calm : is_odd m.sequence ≡ false → Calm m.heads m.cells (cells_after l.closes start)
   pub lone : is_odd m.sequence ≡ true → Lone m.heads m.cells (cells_after l.closes start)
-  pub heads : (k : ℕ) (me : Seat W) → slice_get m.heads k ≡ Some me → HeadOk kit.patience start m.sequence m.commits m.cells l.closes k me (l.pages k)
+  pub heads : (k : ℕ) (me : Seat W) → slice_get m.heads k ≡ Some me → HeadOk kit.policy.patience start m.sequence m.commits m.cells l.closes k me (l.pages k)
   pub clear : (j k : ℕ) (me it : Seat W) → slice_get m.heads j ≡ Some me → slice_get m.heads k ≡ Some it → (j ≡ k → ⊥)
       → is_hardware me.head.state ≡ true → is_hardware it.head.state ≡ true → Clear kit me it
   pub past : All (Explained l.closes start) l.past
   pub present : (k : ℕ) → Explained l.closes start (l.pages k).attempt
-  pub ended : All (Bounded l.closes kit.patience) l.ended
-  pub bound : (k : ℕ) → (l.pages k).attempts ≤ most_attempts kit.patience (closes_of_others l.closes k (l.pages k).since (length l.closes))
+  pub ended : All (Bounded l.closes kit.policy.patience) l.ended
+  pub bound : (k : ℕ) → (l.pages k).attempts ≤ most_attempts kit.policy.patience (closes_of_others l.closes k (l.pages k).since (length l.closes))

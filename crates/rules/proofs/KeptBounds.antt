@@ -21,7 +21,8 @@ use Rattle.rules.specs.Kit.{Kit}
 use Rattle.rules.specs.Logs.{is_empty, put, note, lacks_room_for, names, put_in}
 use Rattle.rules.specs.Heads.{new_head, is_idle, is_hardware, is_software, is_writing_back, abort, with_transaction, begin, state_in}
 use Rattle.rules.specs.Bench.{Bench, head_at, table_with, read_log, write_log, present_snapshot, is_odd, lock_out, after_loads, cells_validated}
-use Rattle.rules.specs.Calls.{Outcome, admitted_open, admitted_read, admitted_write, admitted_close, admitted_push, admitted_jolt, admitted_again, admitted_drop, start_write_back, in_range, new_table, again_mode, is_last}
+use Rattle.parts.specs.Sizes.{in_range}
+use Rattle.rules.specs.Calls.{Outcome, admitted_open, admitted_read, admitted_write, admitted_close, admitted_push, admitted_jolt, admitted_again, admitted_drop, start_write_back, new_table, again_mode, is_last}
 use Rattle.rules.specs.Refusals.{lengths_match}
 use Rattle.rules.specs.Answers.{Answer, call_of}
 use Rattle.rules.specs.Bounds.{HeadBounds, InBounds, SameSizes, BoundsAtSetUp, BoundsKept}
@@ -103,7 +104,7 @@ module _ {W : Type 0} (kit : Kit W) (b : Bench W) (s : InBounds b.table) (k : �
     aborted : (ys : List Head) → Swept heads ys → (cause : Cause) → InBounds (table_with b k ys (abort cause h))
     aborted ys p cause = keeps ys p (abort cause h) (abort-bounds h own cause) refl refl
 
-    read_kept : (c : ℕ) → 32 * k + 32 ≤ length b.reads → (not (names c (write_log b k)) && lacks_room_for c (read_log b k)) ≡ false → Kept b (admitted_read kit b k c).left
+    read_kept : (c : ℕ) → 32 * k + 32 ≤ length b.reads → (not (names c (write_log b k)) && lacks_room_for c (read_log b k)) ≡ false → Kept b (admitted_read kit.memory b k c).left
     read_kept c room slot =
         by_read kit b k c (λ (o : Outcome W W). Kept b o.left) (λ _. (s, sizes _ refl refl)) (s, sizes _ refl refl)
         (λ e ys p snap w.
@@ -115,7 +116,7 @@ module _ {W : Type 0} (kit : Kit W) (b : Bench W) (s : InBounds b.table) (k : �
         ))
         (λ ys p cause. (aborted ys p cause, sizes _ refl refl))
 
-    write_kept : (c : ℕ) (w : W) → is_writing_back h.state ≡ false → 32 * k + 32 ≤ length b.writes → lacks_room_for c (write_log b k) ≡ false → Kept b (admitted_write kit b k c w).left
+    write_kept : (c : ℕ) (w : W) → is_writing_back h.state ≡ false → 32 * k + 32 ≤ length b.writes → lacks_room_for c (write_log b k) ≡ false → Kept b (admitted_write kit.memory b k c w).left
     write_kept c w not_back room free =
         let log = put c w (write_log b k) in
         let few : length log ≤ 32 = few-put c w (write_log b k) (omega (arith, length-log k h.write_count b.writes, own.writes)) free in
@@ -127,18 +128,18 @@ module _ {W : Type 0} (kit : Kit W) (b : Bench W) (s : InBounds b.table) (k : �
 
     -- a head that writes back has taken the lock while it was free, so half of the sequence stays
     starts : is_software h.state ≡ true → is_empty (write_log b k) ≡ false → ((is_software h.state && not (is_empty (write_log b k))) && is_odd b.table.sequence) ≡ false
-        → InBounds (start_write_back kit b k).left.table
+        → InBounds (start_write_back kit.memory b k).left.table
     starts software some free =
         let x = resnap (present_snapshot b.table) h in
         let even : is_odd b.table.sequence ≡ false =
         sym (ap (λ t. (t && not (is_empty (write_log b k))) && is_odd b.table.sequence) software ∙ ap (λ t. not t && is_odd b.table.sequence) some) ∙ free in
         let old : busy h ≡ 1 = ap (λ t. cond t 0 1) going in
-        bounds-with b.table s k lt (map lock_out (after_loads kit b k (cells_validated kit b k))) (swept-lock kit b k (cells_validated kit b k)) (become WritingBack (wrote 0 x))
+        bounds-with b.table s k lt (map lock_out (after_loads kit.memory b k (cells_validated kit.memory b k))) (swept-lock kit b k (cells_validated kit.memory b k)) (become WritingBack (wrote 0 x))
         (back-bounds x (resnap-bounds h own (present_snapshot b.table)) 0 (omega (arith, some-length (write_log b k) some, length-log k h.write_count b.writes)))
         (b.table.sequence + 1) b.table.commits b.table.opened s.opened (omega arith) (let le = s.numbered k new_head (omega (arith, s.eight)) in omega arith) (omega (arith, eqb-false (b.table.sequence % 2) 1 even))
 
     close-kept : (is_hardware h.state ≡ false → is_software h.state ≡ true)
-        → ((is_software h.state && not (is_empty (write_log b k))) && is_odd b.table.sequence) ≡ false → Kept b (admitted_close kit b k).left
+        → ((is_software h.state && not (is_empty (write_log b k))) && is_odd b.table.sequence) ≡ false → Kept b (admitted_close kit.memory b k).left
     close-kept software free =
         by-close kit b k (λ (o : Outcome Closing W). Kept b o.left)
         (λ _. (
@@ -167,9 +168,9 @@ module _ {W : Type 0} (kit : Kit W) (b : Bench W) (s : InBounds b.table) (k : �
     jolt-kept : Kept b (admitted_jolt b k).left
     jolt-kept = (aborted heads (swept_none heads) Other, sizes _ refl refl)
 
-    again_kept : h.attempts < 70_000 → Kept b (admitted_again kit b k).left
+    again_kept : h.attempts < 70_000 → Kept b (admitted_again kit.policy b k).left
     again_kept few =
-        let m = again_mode kit b k in
+        let m = again_mode kit.policy b k in
         (keeps heads (swept_none heads) (begin m (present_snapshot b.table) h) (begin-bounds h own m (present_snapshot b.table) few) (begun-busy m) refl, sizes _ refl refl)
 
     drop-kept : Kept b (admitted_drop b k).left

@@ -210,7 +210,7 @@ module _ {W : Type 0} (kit : Kit W) (b : Bench W) (k : ℕ) where
       by-write kit b k c w (λ (o : Outcome (Unit {0}) W). Hit (head_at b j) (head_at o.left j)) (λ ys p. other-set ys p _ j ne) (other-alone _ j ne)
   others-hit Close j ne =
       by-close kit b k (λ (o : Outcome Closing W). Hit (head_at b j) (head_at o.left j)) (λ _. other-alone _ j ne) (other-alone _ j ne)
-      (λ _ _. other-set (map lock_out (after_loads kit b k (cells_validated kit b k))) (swept-lock kit b k (cells_validated kit b k)) _ j ne)
+      (λ _ _. other-set (map lock_out (after_loads kit.memory b k (cells_validated kit.memory b k))) (swept-lock kit b k (cells_validated kit.memory b k)) _ j ne)
       (λ ys p. other-set ys p _ j ne)
   others-hit Push j ne = other-alone _ j ne
   others-hit Jolt j ne = other-alone _ j ne
@@ -289,7 +289,7 @@ module _ {W : Type 0} (kit : Kit W) (b : Bench W) (k : ℕ) where
   numbers-kept Close ne =
       by-close kit b k (λ (o : Outcome Closing W). SameNumbers b o.left) (λ _. (number-kept b.table.heads (swept_none b.table.heads) _ refl, refl))
       (number-kept b.table.heads (swept_none b.table.heads) _ refl, refl)
-      (λ _ _. (number-kept (map lock_out (after_loads kit b k (cells_validated kit b k))) (swept-lock kit b k (cells_validated kit b k)) _ refl, refl))
+      (λ _ _. (number-kept (map lock_out (after_loads kit.memory b k (cells_validated kit.memory b k))) (swept-lock kit b k (cells_validated kit.memory b k)) _ refl, refl))
       (λ ys p. (number-kept ys p _ refl, refl))
   numbers-kept call ne = (number-kept b.table.heads (swept_none b.table.heads) _ refl, refl)
 
@@ -333,16 +333,16 @@ others-slots-stay {W} kit b who call j bounds ne =
 pub stray-cells : {W : Type 0} (kit : Kit W) → StrayCells kit
 stray-cells {W} kit = record { differs = differs; not_loaded = inside; not_written = λ s cells far. set_past cells s.cell s.word far }
   where
-    differs : (cells : List W) (s : Slot W) → length cells ≤ s.cell → holds kit.same cells s ≡ false
-    differs cells s far = ap (holds_same kit.same s.word) (slice_get_past cells s.cell far)
+    differs : (cells : List W) (s : Slot W) → length cells ≤ s.cell → holds kit.memory.same cells s ≡ false
+    differs cells s far = ap (holds_same kit.memory.same s.word) (slice_get_past cells s.cell far)
 
-    inside : (cells : List W) (log : List (Slot W)) → All (λ c. c < length cells) (cells_loaded kit.same cells log)
+    inside : (cells : List W) (log : List (Slot W)) → All (λ c. c < length cells) (cells_loaded kit.memory.same cells log)
     inside cells [] = All-nil (λ c. c < length cells)
     inside cells (s ∷ log) =
         let P : ℕ → Type 0 = λ c. c < length cells in
-        let within : holds kit.same cells s ≡ true → s.cell < length cells =
+        let within : holds kit.memory.same cells s ≡ true → s.cell < length cells =
         λ e. ⊎_elim (λ (lt : s.cell < length cells). lt) (λ far. wrong (sym (differs cells s far) ∙ e)) (cases_lt s.cell (length cells)) in
-        cond_both (holds kit.same cells s) _ _ (All P) (λ e. All-cons P s.cell (cells_loaded kit.same cells log) (within e) (inside cells log))
+        cond_both (holds kit.memory.same cells s) _ _ (All P) (λ e. All-cons P s.cell (cells_loaded kit.memory.same cells log) (within e) (inside cells log))
         (λ _. cond_both (nat_lt s.cell (length cells)) (s.cell ∷ []) [] (All P) (λ e. All-cons P s.cell [] (ltb-true s.cell (length cells) e) (All-nil P)) (λ _. All-nil P))
 
 pub call-laws : {W : Type 0} (kit : Kit W) → CallLaws kit

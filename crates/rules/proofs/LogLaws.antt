@@ -160,17 +160,17 @@ module _ {W : Type 0} where
       (λ _ e. let lt = leb-false 32 (length log) e in omega arith) room)
 
 module _ {W : Type 0} (kit : Kit W) where
-  pub meets-noted : (x c : ℕ) (w : W) (log : List (Slot W)) → meets kit x log ≡ false → eqb (kit.line x) (kit.line c) ≡ false → meets kit x (note c w log) ≡ false
+  pub meets-noted : (x c : ℕ) (w : W) (log : List (Slot W)) → meets kit x log ≡ false → eqb (kit.memory.line x) (kit.memory.line c) ≡ false → meets kit x (note c w log) ≡ false
   meets-noted x c w log h e =
       by-test (names c log) (λ b. meets kit x (cond b log (log ++ (slot c w ∷ []))) ≡ false) (λ _. h)
-      (λ _. list_any-append (λ s. eqb (kit.line x) (kit.line s.cell)) log (slot c w ∷ []) ∙ rw (h, e))
+      (λ _. list_any-append (λ s. eqb (kit.memory.line x) (kit.memory.line s.cell)) log (slot c w ∷ []) ∙ rw (h, e))
 
   -- a write to a line that a log does not touch leaves what the log agrees with
   pub agrees-set : (c : ℕ) (w : W) (log : List (Slot W)) (xs : List W) → meets kit c log ≡ false → Agrees xs log → Agrees (set xs c w) log
   agrees-set c w log xs e h =
-      all_both (λ s. eqb (kit.line c) (kit.line s.cell) ≡ false) (AgreesAt xs) (λ s. slice_get (set xs c w) s.cell ≡ Some s.word)
-      (λ s apart at. nth-set-other xs c s.cell w (λ q. eqb-false (kit.line c) (kit.line s.cell) apart (ap kit.line q)) ∙ at)
-      log (any_none (λ s. eqb (kit.line c) (kit.line s.cell)) log e) h
+      all_both (λ s. eqb (kit.memory.line c) (kit.memory.line s.cell) ≡ false) (AgreesAt xs) (λ s. slice_get (set xs c w) s.cell ≡ Some s.word)
+      (λ s apart at. nth-set-other xs c s.cell w (λ q. eqb-false (kit.memory.line c) (kit.memory.line s.cell) apart (ap kit.memory.line q)) ∙ at)
+      log (any_none (λ s. eqb (kit.memory.line c) (kit.memory.line s.cell)) log e) h
 
   pub agrees-put-in : (ws log : List (Slot W)) (xs : List W) → All (λ s. meets kit s.cell log ≡ false) ws → Agrees xs log → Agrees (put_in ws xs) log
   agrees-put-in [] log xs a h = h
@@ -178,18 +178,18 @@ module _ {W : Type 0} (kit : Kit W) where
 
   -- validation decides agreement
   module _ (law : Lawful kit) (cells : List W) where
-    pub check-agrees : (log : List (Slot W)) → list_all (holds kit.same cells) log ≡ true → Agrees cells log
+    pub check-agrees : (log : List (Slot W)) → list_all (holds kit.memory.same cells) log ≡ true → Agrees cells log
     check-agrees [] e = All-nil (AgreesAt cells)
     check-agrees (s ∷ log) e =
-        let parts = and_parts (holds kit.same cells s) (list_all (holds kit.same cells) log) e in
+        let parts = and_parts (holds kit.memory.same cells s) (list_all (holds kit.memory.same cells) log) e in
         let at : slice_get cells s.cell ≡ Some s.word =
-        by-option (slice_get cells s.cell) (λ o. holds_same kit.same s.word o ≡ true → o ≡ Some s.word)
+        by-option (slice_get cells s.cell) (λ o. holds_same kit.memory.same s.word o ≡ true → o ≡ Some s.word)
         (λ _ h. wrong h) (λ w _ h. ap Some ((law.exact w s.word).0 h)) parts.0 in
         All-cons (AgreesAt cells) s log at (check-agrees log parts.1)
 
-    pub agrees-check : (log : List (Slot W)) → Agrees cells log → list_all (holds kit.same cells) log ≡ true
+    pub agrees-check : (log : List (Slot W)) → Agrees cells log → list_all (holds kit.memory.same cells) log ≡ true
     agrees-check [] h = refl
     agrees-check (s ∷ log) h =
-        and_from (holds kit.same cells s) (list_all (holds kit.same cells) log)
-        (ap (λ (o : Option W). holds_same kit.same s.word o) (All-head (AgreesAt cells) s log h) ∙ (law.exact s.word s.word).1 refl)
+        and_from (holds kit.memory.same cells s) (list_all (holds kit.memory.same cells) log)
+        (ap (λ (o : Option W). holds_same kit.memory.same s.word o) (All-head (AgreesAt cells) s log h) ∙ (law.exact s.word s.word).1 refl)
         (agrees-check log (All-tail (AgreesAt cells) s log h))

@@ -45,13 +45,13 @@ locked it = cond (is_locked_out it.head.state) (abort_seat Lock it) it
 module _ {W : Type 0} (kit : Kit W) where
   -- whether the log has a cell of this cell's line
   abbrev pub meets : ℕ → List (Slot W) → Bool
-  meets c log = touches kit.line (kit.line c) log
+  meets c log = touches kit.memory.line (kit.memory.line c) log
 
   abbrev pub loaded : List ℕ → Seat W → Seat W
-  loaded cs it = struck_by (hit_by_loads kit.line cs) it
+  loaded cs it = struck_by (hit_by_loads kit.memory.line cs) it
 
   abbrev pub claimed : ℕ → Seat W → Seat W
-  claimed c it = struck_by (hit_by_store kit.line c) it
+  claimed c it = struck_by (hit_by_store kit.memory.line c) it
 
 module _ {W : Type 0} where
   -- the head at the place k with its logs

@@ -1,5 +1,5 @@
 -- Calls that begin or end an attempt and touch nothing else: open, again, jolt and drop.
-use Rattle.std.proofs.Common.{◌≡◌, ℕ, ◌+◌, ◌<◌, ◌≤◌, true, false, ◌||◌, eqb, List, [], length, take, Some, Ok, sym, refl, ap, ◌∙◌, subst, ⊎_elim, arith, All}
+use Rattle.std.proofs.Common.{◌≢◌, ◌≡◌, ℕ, ◌+◌, ◌<◌, ◌≤◌, true, false, ◌||◌, eqb, List, [], length, take, Some, Ok, sym, refl, ap, ◌∙◌, subst, ⊎_elim, arith, All}
 use Rattle.std.specs.List.{slice_get}
 use Rattle.std.proofs.lemmas.Bool.{cases_lt}
 use Rattle.std.proofs.lemmas.List.{drop_all}
@@ -59,13 +59,13 @@ module _ {W : Type 0} (kit : Kit W) (law : Lawful kit) (start : List W) (b : Ben
         aborted = λ e. wrong e;
       })
       plain refl (λ _. refl) (λ k it there ne hm. wrong hm) inv.past (inv.present h)
-      (All-cons (Bounded l.closes kit.patience) _ l.ended (inv.bound h, λ n e. cc) inv.ended) (inv.bound h))
+      (All-cons (Bounded l.closes kit.policy.patience) _ l.ended (inv.bound h, λ n e. cc) inv.ended) (inv.bound h))
 
   pub keep-jolt : is_hardware me.head.state ≡ true → Keeps kit start l h Jolt (with_answer (λ _. granted.Done) (admitted_jolt b h))
   keep-jolt hardware =
       keep-alone kit start _ b bounds lists h lt b.table.sequence b.table.commits b.table.opened (abort Other (head_at b h)) b.cells b.reads b.writes (untouched b bounds lists h lt)
       (quiet_at kit start m l inv h me at _ (λ o. o) l.pages (l.pages h) l.past l.ended struck-same (λ k ne. refl) refl
-      (head-aborts kit.patience start m.sequence m.commits m.cells l.closes h me (l.pages h) Other hardware (inv.heads h me at))
+      (head-aborts kit.policy.patience start m.sequence m.commits m.cells l.closes h me (l.pages h) Other hardware (inv.heads h me at))
       (hardware-not-writing me.head.state hardware) refl (λ _. refl) (λ k it there ne hm. wrong hm) inv.past (inv.present h) inv.ended (inv.bound h))
 
   pub keep-open : is_idle me.head.state ≡ true → is_odd m.sequence ≡ false → Keeps kit start l h Open (with_answer granted.Begun (admitted_open b h))
@@ -90,30 +90,30 @@ module _ {W : Type 0} (kit : Kit W) (law : Lawful kit) (start : List W) (b : Ben
       (All-cons (Explained l.closes start) (l.pages h).attempt l.past (inv.present h) inv.past) (record { prefix = n; is_prefix = omega arith; has_earlier = omega arith; explains = All-nil _; own_place = λ q e. cc; own_reads = All-nil _ }) inv.ended (omega arith))
 
   -- a policy that says hardware has patience left
-  patient : (c : Cause) → kit.next c me.head.hardware_aborts ≡ mode.Hardware → me.head.hardware_aborts < kit.patience
-  patient c e =
-      ⊎_elim (λ (lt : me.head.hardware_aborts < kit.patience). lt) (λ (ge : kit.patience ≤ me.head.hardware_aborts). cc (law.software_from_patience c me.head.hardware_aborts ge)) (cases_lt me.head.hardware_aborts kit.patience)
+  patient : (c : Cause) → c ≢ Changed → kit.policy.next c me.head.hardware_aborts ≡ mode.Hardware → me.head.hardware_aborts < kit.policy.patience
+  patient c ne e =
+      ⊎_elim (λ (lt : me.head.hardware_aborts < kit.policy.patience). lt) (λ (ge : kit.policy.patience ≤ me.head.hardware_aborts). cc (law.software_from_patience c me.head.hardware_aborts ne ge)) (cases_lt me.head.hardware_aborts kit.policy.patience)
 
-  stays-hardware : (s : State) → next_mode kit.next me.head.hardware_aborts s ≡ mode.Hardware → me.head.hardware_aborts < kit.patience
+  stays-hardware : (s : State) → next_mode kit.policy.next me.head.hardware_aborts s ≡ mode.Hardware → me.head.hardware_aborts < kit.policy.patience
   stays-hardware Idle e = cc
   stays-hardware Hardware e = cc
   stays-hardware Software e = cc
-  stays-hardware (Aborted Conflict) e = patient Conflict e
-  stays-hardware (Aborted Capacity) e = patient Capacity e
-  stays-hardware (Aborted Lock) e = patient Lock e
-  stays-hardware (Aborted Other) e = patient Other e
+  stays-hardware (Aborted Conflict) e = patient Conflict (λ q. cc) e
+  stays-hardware (Aborted Capacity) e = patient Capacity (λ q. cc) e
+  stays-hardware (Aborted Lock) e = patient Lock (λ q. cc) e
+  stays-hardware (Aborted Other) e = patient Other (λ q. cc) e
   stays-hardware (Aborted Changed) e = cc
   stays-hardware WritingBack e = cc
 
-  pub keep-again : is_aborted me.head.state ≡ true → is_odd m.sequence ≡ false → Keeps kit start l h Again (with_answer granted.Begun (admitted_again kit b h))
+  pub keep-again : is_aborted me.head.state ≡ true → is_odd m.sequence ≡ false → Keeps kit start l h Again (with_answer granted.Begun (admitted_again kit.policy b h))
   keep-again aborted even =
       let n = length l.closes in
       let o = inv.heads h me at in
       let down = o.aborted aborted in
       let going = o.going (aborted-going me.head.state aborted) in
       let plain = going-plain me.head.state (aborted-going me.head.state aborted) in
-      let bound : (l.pages h).attempts + 1 ≤ most_attempts kit.patience (closes_of_others l.closes h (l.pages h).since n) = omega (arith, down.under, down.budget, o.attempts) in
-      by_mode (again_mode kit b h) (λ d. Keeps kit start l h Again (with_answer granted.Begun (becomes b h (Ok d) (begin d (present_snapshot b.table) (head_at b h)))))
+      let bound : (l.pages h).attempts + 1 ≤ most_attempts kit.policy.patience (closes_of_others l.closes h (l.pages h).since n) = omega (arith, down.under, down.budget, o.attempts) in
+      by_mode (again_mode kit.policy b h) (λ d. Keeps kit start l h Again (with_answer granted.Begun (becomes b h (Ok d) (begin d (present_snapshot b.table) (head_at b h)))))
       (λ e. keep-alone kit start _ b bounds lists h lt b.table.sequence b.table.commits b.table.opened (begin mode.Hardware (present_snapshot b.table) (head_at b h)) b.cells b.reads b.writes (untouched b bounds lists h lt)
       (quiet_at kit start m l inv h me at _ (λ o. o) _ _ _ l.ended struck-same
       (λ k ne. turned-other l.pages h _ k ne) (turned-here l.pages h _)

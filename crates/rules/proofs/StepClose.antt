@@ -78,7 +78,7 @@ module _ {W : Type 0} (kit : Kit W) (law : Lawful kit) (start : List W) (b : Ben
 
   -- a head that has closed: nothing is asked of its logs
   closed-ok : (S C : ℕ) (cells : List W) (me' : Seat W) (writing : Bool) → me'.head.attempts ≡ me.head.attempts → writing ≡ is_writing_back me'.head.state
-      → is_hardware me'.head.state ≡ false → is_software me'.head.state ≡ false → is_aborted me'.head.state ≡ false → HeadOk kit.patience start S C cells closes' h me' (page' writing)
+      → is_hardware me'.head.state ≡ false → is_software me'.head.state ≡ false → is_aborted me'.head.state ≡ false → HeadOk kit.policy.patience start S C cells closes' h me' (page' writing)
   closed-ok S C cells me' writing same mark nh ns nf =
       let o = inv.heads h me at in
       let len = length' in
@@ -96,14 +96,14 @@ module _ {W : Type 0} (kit : Kit W) (law : Lawful kit) (start : List W) (b : Ben
   other-head : (k : ℕ) → (k ≡ h → ⊥) → All (λ s. eqb k s.head ≡ false) (commit ∷ [])
   other-head k ne = All-cons (λ s. eqb k s.head ≡ false) commit [] (ne_eqb k h ne) (All-nil _)
 
-  ended-ok : (writing : Bool) → All (Bounded (l' writing).closes kit.patience) (l' writing).ended
+  ended-ok : (writing : Bool) → All (Bounded (l' writing).closes kit.policy.patience) (l' writing).ended
   ended-ok writing =
       let o = inv.heads h me at in
       let stable = count-stable l.closes (commit ∷ []) h (l.pages h).since n (omega arith) in
-      All-cons (Bounded (l' writing).closes kit.patience) (end me.head.attempts) l.ended (omega (arith, inv.bound h), λ k e. cc)
-      (All-weaker (Bounded l.closes kit.patience) (Bounded (l' writing).closes kit.patience) (λ x b. bounded-grown l.closes (commit ∷ []) kit.patience x b) l.ended inv.ended)
+      All-cons (Bounded (l' writing).closes kit.policy.patience) (end me.head.attempts) l.ended (omega (arith, inv.bound h), λ k e. cc)
+      (All-weaker (Bounded l.closes kit.policy.patience) (Bounded (l' writing).closes kit.policy.patience) (λ x b. bounded-grown l.closes (commit ∷ []) kit.policy.patience x b) l.ended inv.ended)
 
-  bound-ok : (l.pages h).attempts ≤ most_attempts kit.patience (closes_of_others closes' h (l.pages h).since (length closes'))
+  bound-ok : (l.pages h).attempts ≤ most_attempts kit.policy.patience (closes_of_others closes' h (l.pages h).since (length closes'))
   bound-ok = let more = count-grown l.closes (commit ∷ []) h (l.pages h).since in omega (arith, inv.bound h)
 
   -- all closes before its own explain an attempt whose reads are valid now
@@ -128,7 +128,7 @@ module _ {W : Type 0} (kit : Kit W) (law : Lawful kit) (start : List W) (b : Ben
   committed-all even =
       ap (put_in me.writes) (inv.calm even).settled ∙ ((inv.heads h me at).live running).puts (cells_after l.closes start) ∙ sym (after-append l.closes (commit ∷ []) start)
 
-  keep-hardware : is_hardware me.head.state ≡ true → Kept (hardware_close kit b h)
+  keep-hardware : is_hardware me.head.state ≡ true → Kept (hardware_close kit.memory b h)
   keep-hardware hardware =
       let even = hardware-even kit law start b l inv h at hardware in
       let o = inv.heads h me at in
@@ -182,30 +182,30 @@ module _ {W : Type 0} (kit : Kit W) (law : Lawful kit) (start : List W) (b : Ben
       })
       (ended-ok false) bound-ok)
 
-  keep-lock : is_software me.head.state ≡ true → is_empty me.writes ≡ false → is_odd m.sequence ≡ false → Kept (software_close kit b h)
+  keep-lock : is_software me.head.state ≡ true → is_empty me.writes ≡ false → is_odd m.sequence ≡ false → Kept (software_close kit.memory b h)
   keep-lock software some even =
       let o = inv.heads h me at in
       let x = become WritingBack (wrote 0 (resnap (present_snapshot b.table) (head_at b h))) in
       let me' = seated me x in
-      let strike : ℕ → Head → Head = abort_if_hit b h (hit_by_loads kit.line (cells_validated kit b h)) in
-      let f : Seat W → Seat W = λ o. locked (loaded kit (cells_validated kit b h) o) in
-      let struck : (o : Seat W) → Struck o (f o) = λ o. struck-locked o (loaded kit (cells_validated kit b h) o) (struck-hit (hit_by_loads kit.line (cells_validated kit b h)) o) in
-      cond_both (is_valid kit b h) _ _ Kept
+      let strike : ℕ → Head → Head = abort_if_hit b h (hit_by_loads kit.memory.line (cells_validated kit.memory b h)) in
+      let f : Seat W → Seat W = λ o. locked (loaded kit (cells_validated kit.memory b h) o) in
+      let struck : (o : Seat W) → Struck o (f o) = λ o. struck-locked o (loaded kit (cells_validated kit.memory b h) o) (struck-hit (hit_by_loads kit.memory.line (cells_validated kit.memory b h)) o) in
+      cond_both (is_valid kit.memory b h) _ _ Kept
       (λ e.
       subst (λ hs. Inv kit start (view (bench (with_numbers b.table (set hs h x) (b.table.sequence + 1) b.table.commits b.table.opened) b.cells b.reads b.writes)) (l' true))
       (sym (map-map_at lock_out strike 0 b.table.heads))
       (keep-swept kit start _ b bounds lists h lt (b.table.sequence + 1) b.table.commits b.table.opened x b.cells b.reads b.writes
-      (λ j y. lock_out (strike j y)) f (locks-seen b bounds lists h lt b.reads b.writes (untouched b bounds lists h lt) (hit_by_loads kit.line (cells_validated kit b h)))
+      (λ j y. lock_out (strike j y)) f (locks-seen b bounds lists h lt b.reads b.writes (untouched b bounds lists h lt) (hit_by_loads kit.memory.line (cells_validated kit.memory b h)))
       (moving kit start m l inv h me me' f (m.sequence + 1) m.commits m.cells (commit ∷ []) closes'
       (pages_with l.pages h (page' true)) (page' true) l.past (end me.head.attempts ∷ l.ended)
       at struck (λ k ne. turned-other l.pages h _ k ne) (turned-here l.pages h _) refl other-head (omega arith) (omega arith)
-      (λ k it there ne hi hf. wrong (sym (locked-not-hardware (loaded kit (cells_validated kit b h) it)) ∙ hf))
+      (λ k it there ne hi hf. wrong (sym (locked-not-hardware (loaded kit (cells_validated kit.memory b h) it)) ∙ hf))
       (λ k it there s q _. absurd (omega (arith, s.low-S)))
       (closed-ok (m.sequence + 1) m.commits m.cells me' true refl refl refl refl refl)
       refl
       (λ q. wrong (sym q ∙ odd-next m.sequence even))
       (λ _. record {
-        no-hardware = after-each f m.heads h me' me at (λ k x. is_hardware x.head.state ≡ false) refl (λ k y there ne. locked-not-hardware (loaded kit (cells_validated kit b h) y));
+        no-hardware = after-each f m.heads h me' me at (λ k x. is_hardware x.head.state ≡ false) refl (λ k y there ne. locked-not-hardware (loaded kit (cells_validated kit.memory b h) y));
         who = h;
         it = me';
         there = nth-set-same (map f m.heads) h me' (f me) (nth-map-some f m.heads h me at);
@@ -219,10 +219,10 @@ module _ {W : Type 0} (kit : Kit W) (law : Lawful kit) (start : List W) (b : Ben
       inv.past (explained-all true even (sound-valid kit law start b l inv h at software e)) (ended-ok true) bound-ok)))
       (λ e.
       keep-swept kit start l b bounds lists h lt b.table.sequence b.table.commits b.table.opened (abort Changed (head_at b h)) b.cells b.reads b.writes
-      strike (loaded kit (cells_validated kit b h)) (conflict-seen b bounds lists h lt b.reads b.writes (untouched b bounds lists h lt) (hit_by_loads kit.line (cells_validated kit b h)))
+      strike (loaded kit (cells_validated kit.memory b h)) (conflict-seen b bounds lists h lt b.reads b.writes (untouched b bounds lists h lt) (hit_by_loads kit.memory.line (cells_validated kit.memory b h)))
       (changed kit law start b l inv h at software even e))
 
-  pub keep-close : ((is_software me.head.state && not (is_empty me.writes)) && is_odd m.sequence) ≡ false → Kept (admitted_close kit b h)
+  pub keep-close : ((is_software me.head.state && not (is_empty me.writes)) && is_odd m.sequence) ≡ false → Kept (admitted_close kit.memory b h)
   keep-close calm =
       cond_both (is_hardware me.head.state) _ _ Kept (λ hardware. keep-hardware hardware)
       (λ rigid.

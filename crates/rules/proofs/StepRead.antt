@@ -118,19 +118,19 @@ module _ {W : Type 0} (kit : Kit W) (law : Lawful kit) (start : List W) (b : Ben
     -- how the bench is seen once the word is note, after loads of these cells
     note-kept : (cs : List ℕ) (x : Head) (l' : History W) → x.write_count ≡ (head_at b h).write_count
         → Inv kit start (record { heads = set (map (loaded kit cs) m.heads) h (noted-seat x); sequence = m.sequence; commits = m.commits; cells = m.cells }) l'
-        → Inv kit start (view (notes_word kit b h (after_loads kit b h cs) x c w).left) l'
+        → Inv kit start (view (notes_word kit.memory b h (after_loads kit.memory b h cs) x c w).left) l'
     note-kept cs x l' ws i =
         let after = slots_with h new b.reads in
         let mine : seat_at after b.writes h (read_more (length new) x) ≡ noted-seat x =
         ap (λ (r : List (Slot W)). record { head = read_more (length new) x; reads = r; writes = log_of h x.write_count b.writes }) (own-log b bounds lists h lt b.reads new (read-room b bounds lists h lt) few)
         ∙ ap (λ n. record { head = read_more (length new) x; reads = new; writes = log_of h n b.writes }) ws in
         keep-swept kit start l' b bounds lists h lt b.table.sequence b.table.commits b.table.opened (read_more (length new) x) b.cells after b.writes
-        (abort_if_hit b h (hit_by_loads kit.line cs)) (loaded kit cs)
-        (conflict-seen b bounds lists h lt after b.writes (reads-laid b bounds lists h lt new few) (hit_by_loads kit.line cs))
+        (abort_if_hit b h (hit_by_loads kit.memory.line cs)) (loaded kit cs)
+        (conflict-seen b bounds lists h lt after b.writes (reads-laid b bounds lists h lt new few) (hit_by_loads kit.memory.line cs))
         (subst (λ (s : Seat W). Inv kit start (record { heads = set (map (loaded kit cs) m.heads) h s; sequence = m.sequence; commits = m.commits; cells = m.cells }) l') (sym mine) i)
 
   keep-software : (w : W) → lacks_room_for c me.reads ≡ false → slice_get m.cells c ≡ Some w → names c me.writes ≡ false → is_software me.head.state ≡ true → is_odd m.sequence ≡ false
-      → Kept (software_read kit b h c w)
+      → Kept (software_read kit.memory b h c w)
   keep-software w room here none software even =
       let o = inv.heads h me at in
       let s = o.software software in
@@ -138,16 +138,16 @@ module _ {W : Type 0} (kit : Kit W) (law : Lawful kit) (start : List W) (b : Ben
       let plain = going-plain me.head.state (running-going me.head.state running) in
       let x = resnap (present_snapshot b.table) (head_at b h) in
       let me' = noted-seat w room x in
-      let cs = cells_validated kit b h ++ (c ∷ []) in
-      cond_both (is_valid kit b h) _ _ Kept
+      let cs = cells_validated kit.memory b h ++ (c ∷ []) in
+      cond_both (is_valid kit.memory b h) _ _ Kept
       (λ e.
       let valid = sound-valid kit law start b l inv h at software e in
       let valid' : Agrees m.cells (note c w me.reads) = agrees-noted c w me.reads m.cells here valid in
       let mono = count-mono l.closes h (l.pages h).since s.p n s.within in
-      from-cells w (view (notes_word kit b h (after_loads kit b h cs) x c w).left) none
+      from-cells w (view (notes_word kit.memory b h (after_loads kit.memory b h cs) x c w).left) none
       (note-kept w room cs x _ refl
       (quiet_at kit start m l inv h me at me' (loaded kit cs) _ (more-read c w (l.pages h)) l.past l.ended
-      (struck-hit (hit_by_loads kit.line cs)) (λ k ne. turned-other l.pages h _ k ne) (turned-here l.pages h _)
+      (struck-hit (hit_by_loads kit.memory.line cs)) (λ k ne. turned-other l.pages h _ k ne) (turned-here l.pages h _)
       (record {
         attempts = o.attempts;
         since = o.since;
@@ -175,23 +175,23 @@ module _ {W : Type 0} (kit : Kit W) (law : Lawful kit) (start : List W) (b : Ben
       inv.past (explained-now w here even valid) inv.ended (inv.bound h))))
       (λ e.
       keep-swept kit start l b bounds lists h lt b.table.sequence b.table.commits b.table.opened (abort Changed (head_at b h)) b.cells b.reads b.writes
-      (abort_if_hit b h (hit_by_loads kit.line (cells_validated kit b h))) (loaded kit (cells_validated kit b h))
-      (conflict-seen b bounds lists h lt b.reads b.writes (untouched b bounds lists h lt) (hit_by_loads kit.line (cells_validated kit b h)))
+      (abort_if_hit b h (hit_by_loads kit.memory.line (cells_validated kit.memory b h))) (loaded kit (cells_validated kit.memory b h))
+      (conflict-seen b bounds lists h lt b.reads b.writes (untouched b bounds lists h lt) (hit_by_loads kit.memory.line (cells_validated kit.memory b h)))
       (changed kit law start b l inv h at software even e))
 
-  keep-hardware : (w : W) → lacks_room_for c me.reads ≡ false → slice_get m.cells c ≡ Some w → names c me.writes ≡ false → is_hardware me.head.state ≡ true → Kept (hardware_read kit b h c w)
+  keep-hardware : (w : W) → lacks_room_for c me.reads ≡ false → slice_get m.cells c ≡ Some w → names c me.writes ≡ false → is_hardware me.head.state ≡ true → Kept (hardware_read kit.memory b h c w)
   keep-hardware w room here none hardware =
       let o = inv.heads h me at in
       let k = o.hardware hardware in
       let even = hardware-even kit law start b l inv h at hardware in
       let plain = going-plain me.head.state (running-going me.head.state running) in
       let me' = noted-seat w room (head_at b h) in
-      cond_both (fits_read kit b h c) _ _ Kept
+      cond_both (fits_read kit.memory b h c) _ _ Kept
       (λ e.
-      from-cells w (view (notes_word kit b h (after_loads kit b h (c ∷ [])) (head_at b h) c w).left) none
+      from-cells w (view (notes_word kit.memory b h (after_loads kit.memory b h (c ∷ [])) (head_at b h) c w).left) none
       (note-kept w room (c ∷ []) (head_at b h) _ refl
       (quiet_at kit start m l inv h me at me' (loaded kit (c ∷ [])) _ (more-read c w (l.pages h)) l.past l.ended
-      (struck-hit (hit_by_loads kit.line (c ∷ []))) (λ k ne. turned-other l.pages h _ k ne) (turned-here l.pages h _)
+      (struck-hit (hit_by_loads kit.memory.line (c ∷ []))) (λ k ne. turned-other l.pages h _ k ne) (turned-here l.pages h _)
       (record {
         attempts = o.attempts;
         since = o.since;
@@ -206,9 +206,9 @@ module _ {W : Type 0} (kit : Kit W) (law : Lawful kit) (start : List W) (b : Ben
       (λ j it there ne hm hi hf.
       let gone = (or_parts (meets kit c it.writes) false (survives kit (c ∷ []) it hi hf)).0 in (
         inv.clear h j me it at there (λ q. ne (sym q)) hardware hi,
-        all_both (λ s. meets kit s.cell me.reads ≡ false) (λ s. eqb (kit.line c) (kit.line s.cell) ≡ false) (λ s. meets kit s.cell (note c w me.reads) ≡ false)
-            (λ s a b. meets-noted kit s.cell c w me.reads a (eqb-flip (kit.line c) (kit.line s.cell) b))
-            it.writes (inv.clear j h it me there at ne hi hardware) (any_none (λ s. eqb (kit.line c) (kit.line s.cell)) it.writes gone),
+        all_both (λ s. meets kit s.cell me.reads ≡ false) (λ s. eqb (kit.memory.line c) (kit.memory.line s.cell) ≡ false) (λ s. meets kit s.cell (note c w me.reads) ≡ false)
+            (λ s a b. meets-noted kit s.cell c w me.reads a (eqb-flip (kit.memory.line c) (kit.memory.line s.cell) b))
+            it.writes (inv.clear j h it me there at ne hi hardware) (any_none (λ s. eqb (kit.memory.line c) (kit.memory.line s.cell)) it.writes gone),
       ))
       inv.past (explained-now w here even k.valid) inv.ended (inv.bound h))))
       (λ e.
@@ -273,7 +273,7 @@ module _ {W : Type 0} (kit : Kit W) (law : Lawful kit) (start : List W) (b : Ben
       inv.ended (inv.bound h))
 
   pub keep-read : ((is_software me.head.state && not (names c me.writes)) && is_odd m.sequence) ≡ false → (not (names c me.writes) && lacks_room_for c me.reads) ≡ false
-      → Kept (admitted_read kit b h c)
+      → Kept (admitted_read kit.memory b h c)
   keep-read calm room =
       by-option (word_for c me.writes)
       (λ o. Kept (logged_or o (λ w. leaves b (Ok w) b.table) (with_word (slice_get m.cells c) b from_cell)))
@@ -292,4 +292,4 @@ module _ {W : Type 0} (kit : Kit W) (law : Lawful kit) (start : List W) (b : Ben
       (sym (sym (linked.words c) ∙ word_some c w me.writes e)) (keep-own w e))
     where
       from_cell : W → Outcome W W
-      from_cell w = cond (is_hardware (head_at b h).state) (hardware_read kit b h c w) (software_read kit b h c w)
+      from_cell w = cond (is_hardware (head_at b h).state) (hardware_read kit.memory b h c w) (software_read kit.memory b h c w)

@@ -98,7 +98,7 @@ module _ {W : Type 0} (kit : Kit W) (law : Lawful kit) (start : List W) (b : Ben
         own_reads = x.own_reads;
       }
 
-  keep-software : is_software me.head.state ≡ true → Kept (puts_word kit b h (Ok tt) new b.table.heads x)
+  keep-software : is_software me.head.state ≡ true → Kept (puts_word kit.memory b h (Ok tt) new b.table.heads x)
   keep-software software =
       let o = inv.heads h me at in
       let s = o.software software in
@@ -133,20 +133,20 @@ module _ {W : Type 0} (kit : Kit W) (law : Lawful kit) (start : List W) (b : Ben
       plain plain (λ _. software-not-hardware me.head.state software) (λ k it there ne hm. wrong (sym (software-not-hardware me.head.state software) ∙ hm))
       inv.past explained-write inv.ended (inv.bound h)))
 
-  keep-hardware : is_hardware me.head.state ≡ true → Kept (hardware_write kit b h c new x)
+  keep-hardware : is_hardware me.head.state ≡ true → Kept (hardware_write kit.memory b h c new x)
   keep-hardware hardware =
       let o = inv.heads h me at in
       let k = o.hardware hardware in
       let even = hardware-even kit law start b l inv h at hardware in
       let plain = going-plain me.head.state (running-going me.head.state running) in
       let aborts : cond (is_hardware me.head.state) (me.head.hardware_aborts + 1) me.head.hardware_aborts ≡ me.head.hardware_aborts + 1 = cond-true (is_hardware me.head.state) (me.head.hardware_aborts + 1) me.head.hardware_aborts hardware in
-      cond_both (fits_write kit b h new x) _ _ Kept
+      cond_both (fits_write kit.memory b h new x) _ _ Kept
       (λ e.
       keep-swept kit start _ b bounds lists h lt b.table.sequence b.table.commits b.table.opened x b.cells b.reads (slots_with h new b.writes)
-      (abort_if_hit b h (hit_by_store kit.line c)) (claimed kit c) (conflict-seen b bounds lists h lt b.reads (slots_with h new b.writes) (writes-laid b bounds lists h lt new few) (hit_by_store kit.line c))
+      (abort_if_hit b h (hit_by_store kit.memory.line c)) (claimed kit c) (conflict-seen b bounds lists h lt b.reads (slots_with h new b.writes) (writes-laid b bounds lists h lt new few) (hit_by_store kit.memory.line c))
       (subst (λ (s : Seat W). Inv kit start (record { heads = set (map (claimed kit c) m.heads) h s; sequence = m.sequence; commits = m.commits; cells = m.cells }) (history_after l h (Write c w) (Ok granted.Done))) (sym mine)
       (quiet_at kit start m l inv h me at me' (claimed kit c) _ (more-written c w (l.pages h)) l.past l.ended
-      (struck-hit (hit_by_store kit.line c)) (λ k ne. turned-other l.pages h _ k ne) (turned-here l.pages h _)
+      (struck-hit (hit_by_store kit.memory.line c)) (λ k ne. turned-other l.pages h _ k ne) (turned-here l.pages h _)
       (record {
         attempts = o.attempts;
         since = o.since;
@@ -179,7 +179,7 @@ module _ {W : Type 0} (kit : Kit W) (law : Lawful kit) (start : List W) (b : Ben
       })
       plain refl (λ _. refl) (λ k it there ne hm. wrong hm) inv.past (inv.present h) inv.ended (inv.bound h)))
 
-  pub keep-write : Kept (admitted_write kit b h c w)
+  pub keep-write : Kept (admitted_write kit.memory b h c w)
   keep-write =
       cond_both (is_hardware me.head.state) _ _ Kept (λ hardware. keep-hardware hardware)
       (λ rigid. keep-software (sym (ap (λ t. t || is_software me.head.state) rigid) ∙ running))

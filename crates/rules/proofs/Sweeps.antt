@@ -54,21 +54,21 @@ module _ {W : Type 0} (kit : Kit W) (b : Bench W) (k : ℕ) where
       (λ e. (and_parts (is_hardware x.state) struck (and_parts (not (eqb j k)) (is_hardware x.state && struck) e).1).0))
       0 b.table.heads
 
-  pub swept-loads : (cs : List ℕ) → Swept b.table.heads (after_loads kit b k cs)
-  swept-loads cs = swept-conflict (hit_by_loads kit.line cs)
+  pub swept-loads : (cs : List ℕ) → Swept b.table.heads (after_loads kit.memory b k cs)
+  swept-loads cs = swept-conflict (hit_by_loads kit.memory.line cs)
 
-  pub swept-store : (c : ℕ) → Swept b.table.heads (after_store kit b k c)
-  swept-store c = swept-conflict (hit_by_store kit.line c)
+  pub swept-store : (c : ℕ) → Swept b.table.heads (after_store kit.memory b k c)
+  swept-store c = swept-conflict (hit_by_store kit.memory.line c)
 
   -- and after the lock is taken: one that has aborted already is not locked out
-  pub swept-lock : (cs : List ℕ) → Swept b.table.heads (map lock_out (after_loads kit b k cs))
+  pub swept-lock : (cs : List ℕ) → Swept b.table.heads (map lock_out (after_loads kit.memory b k cs))
   swept-lock cs =
       swept-then lock_out
       (λ x y h. ⊎_elim
       (λ (e : y ≡ x). rw e (hit-if (is_locked_out x.state) Lock x (locked-out x.state)))
       (λ (q : (is_hardware x.state ≡ true) × ((cause : Cause) × (y ≡ abort cause x))). inr (q.0, (q.1.0, ap lock_out q.1.1)))
       h)
-      b.table.heads (after_loads kit b k cs) (swept-loads cs)
+      b.table.heads (after_loads kit.memory b k cs) (swept-loads cs)
 
 -- and so each by its place, also past the last
 pub swept_at : (xs ys : List Head) (j : ℕ) (d : Head) → Swept xs ys → Hit (get_or xs j d) (get_or ys j d)

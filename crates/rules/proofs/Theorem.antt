@@ -71,7 +71,7 @@ module _ {W : Type 0} (kit : Kit W) (law : Lawful kit) (start : List W) where
       let k = keep-made b l call call.lent bounds inv in
       keep_all (step kit b call).1 (history_after l call.caller.head call.call (step kit b call).0) calls k.0 k.1
 
-  pub gives : (m : Rig W) (l : History W) → Inv kit start m l → ThreeLaws kit.patience start m.cells l
+  pub gives : (m : Rig W) (l : History W) → Inv kit start m l → ThreeLaws kit.policy.patience start m.cells l
   gives m l inv = record {
     settled =
         λ none.
@@ -104,12 +104,12 @@ module _ {W : Type 0} (kit : Kit W) (start : List W) where
     lone = λ e. wrong e;
     heads =
         λ k me there.
-        subst (λ x. HeadOk kit.patience start 0 0 start [] k x blank_page) (sym (nth-replicate n new_seat me k there))
+        subst (λ x. HeadOk kit.policy.patience start 0 0 start [] k x blank_page) (sym (nth-replicate n new_seat me k there))
         (record { attempts = refl; since = omega arith; mark = refl; going = λ e. wrong e; live = λ e. wrong e; hardware = λ e. wrong e; software = λ e. wrong e; aborted = λ e. wrong e });
     clear = λ j k me it there _ _ hardware _. wrong (subst (λ x. is_hardware x.head.state ≡ true) (nth-replicate n new_seat me j there) hardware);
     past = All-nil (Explained [] start);
     present = λ k. record { prefix = 0; is_prefix = omega arith; has_earlier = omega arith; explains = All-nil _; own_place = λ q e. cc; own_reads = All-nil _ };
-    ended = All-nil (Bounded [] kit.patience);
+    ended = All-nil (Bounded [] kit.policy.patience);
     bound = λ k. omega arith;
   }
 

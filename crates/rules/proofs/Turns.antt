@@ -53,7 +53,7 @@ module _ {W : Type 0} (kit : Kit W) (start : List W) (m : Rig W) (l : History W)
       → ((o : Seat W) → Struck o (f o))
       → ((k : ℕ) → (k ≡ h → ⊥) → pages k ≡ l.pages k)
       → pages h ≡ page
-      → HeadOk kit.patience start m.sequence m.commits m.cells l.closes h me' page
+      → HeadOk kit.policy.patience start m.sequence m.commits m.cells l.closes h me' page
       → is_writing_back me.head.state ≡ false
       → is_writing_back me'.head.state ≡ false
       → (is_odd m.sequence ≡ true → is_hardware me'.head.state ≡ false)
@@ -61,14 +61,14 @@ module _ {W : Type 0} (kit : Kit W) (start : List W) (m : Rig W) (l : History W)
       → is_hardware (f it).head.state ≡ true → Clear kit me' it × Clear kit it me')
       → All (Explained l.closes start) past
       → Explained l.closes start page.attempt
-      → All (Bounded l.closes kit.patience) ended
-      → (page.attempts ≤ most_attempts kit.patience (closes_of_others l.closes h page.since (length l.closes)))
+      → All (Bounded l.closes kit.policy.patience) ended
+      → (page.attempts ≤ most_attempts kit.policy.patience (closes_of_others l.closes h page.since (length l.closes)))
       → Inv kit start (record { heads = set (map f m.heads) h me'; sequence = m.sequence; commits = m.commits; cells = m.cells })
       (record { closes = l.closes; pages = pages; past = past; ended = ended })
   quiet_at me' f pages page past ended struck others here ok plain plain' calm clear pasts presents endeds bounds =
       quiet kit start m l inv h me me' f pages past ended at struck others
-      (subst (HeadOk kit.patience start m.sequence m.commits m.cells l.closes h me') (sym here) ok)
+      (subst (HeadOk kit.policy.patience start m.sequence m.commits m.cells l.closes h me') (sym here) ok)
       plain plain' calm clear pasts
       (subst (λ p. Explained l.closes start p.attempt) (sym here) presents)
       endeds
-      (subst (λ p. p.attempts ≤ most_attempts kit.patience (closes_of_others l.closes h p.since (length l.closes))) (sym here) bounds)
+      (subst (λ p. p.attempts ≤ most_attempts kit.policy.patience (closes_of_others l.closes h p.since (length l.closes))) (sym here) bounds)

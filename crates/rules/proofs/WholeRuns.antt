@@ -5,7 +5,8 @@ use Rattle.rules.specs.declared.types.Refusal.TheVariants as refuse
 use Rattle.rules.specs.declared.types.Table.{Table}
 use Rattle.rules.specs.Kit.{Kit}
 use Rattle.rules.proofs.Lawful.{Lawful}
-use Rattle.rules.specs.Calls.{in_range, new_table, set_up}
+use Rattle.parts.specs.Sizes.{in_range}
+use Rattle.rules.specs.Calls.{new_table, set_up}
 use Rattle.rules.specs.Runs.{answers_of, left_by}
 use Rattle.rules.specs.History.{nothing_yet, history_of}
 use Rattle.rules.specs.RunLaws.{LawsOfRuns}

@@ -12,8 +12,8 @@ use Rattle.rules.specs.declared.types.Granted.TheVariants as granted
 use Rattle.rules.specs.declared.types.Refusal.{Refusal}
 use Rattle.rules.specs.declared.types.Refusal.TheVariants as refuse
 use Rattle.rules.specs.Kit.{Kit}
-use Rattle.rules.specs.Bench.{Bench}
-use Rattle.rules.specs.Calls.{Outcome, open_of, read_of, write_of, close_of, push_of, jolt_of, again_of, drop_of}
+use Rattle.rules.specs.Bench.{BenchOf, Bench}
+use Rattle.rules.specs.Calls.{OutcomeOf, open_of, read_of, write_of, close_of, push_of, jolt_of, again_of, drop_of}
 
 abbrev pub Answer : Type 0 → Type 0
 Answer W = Result (Granted W) Refusal
@@ -23,18 +23,18 @@ answer_by give (Ok x) = Ok (give x)
 answer_by give (Err e) = Err e
 
 -- the answer, and the table and lists that are left
-abbrev pub with_answer : {A W : Type 0} → (A → Granted W) → Outcome A W → Answer W × Bench W
+abbrev pub with_answer : {T A W : Type 0} → (A → Granted W) → OutcomeOf T A W → Answer W × BenchOf T W
 with_answer give o = (answer_by give o.answer, o.left)
 
 -- any of the eight calls
 abbrev pub call_of : {W : Type 0} → Kit W → Bench W → Caller → Call ℕ W → Answer W × Bench W
 call_of kit b who Open = with_answer granted.Begun (open_of b who)
-call_of kit b who (Read c) = with_answer granted.Word (read_of kit b who c)
-call_of kit b who (Write c w) = with_answer (λ _. granted.Done) (write_of kit b who c w)
-call_of kit b who Close = with_answer granted.Closed (close_of kit b who)
+call_of kit b who (Read c) = with_answer granted.Word (read_of kit.memory b who c)
+call_of kit b who (Write c w) = with_answer (λ _. granted.Done) (write_of kit.memory b who c w)
+call_of kit b who Close = with_answer granted.Closed (close_of kit.memory b who)
 call_of kit b who Push = with_answer granted.SlotsLeft (push_of b who)
 call_of kit b who Jolt = with_answer (λ _. granted.Done) (jolt_of b who)
-call_of kit b who Again = with_answer granted.Begun (again_of kit b who)
+call_of kit b who Again = with_answer granted.Begun (again_of kit.policy b who)
 call_of kit b who Drop = with_answer (λ _. granted.Done) (drop_of b who)
 
 -- the number of each refusal
@@ -53,8 +53,17 @@ refusal_number refuse.StaleHandle = 12
 
 -- and its value: only an abort has one, the number of its cause
 abbrev pub refusal_value : Refusal → Option ℕ
+refusal_value refuse.Lists = None
+refusal_value refuse.NoHead = None
+refusal_value refuse.NoCell = None
+refusal_value refuse.NotTaken = None
 refusal_value (refuse.Aborted cause) = Some (cause_number cause)
-refusal_value e = None
+refusal_value refuse.Busy = None
+refusal_value refuse.Full = None
+refusal_value refuse.OutOfTransactions = None
+refusal_value refuse.OutOfAttempts = None
+refusal_value refuse.OutOfRange = None
+refusal_value refuse.StaleHandle = None
 
 -- a granted call returns 0, or 1 if its writes are still to be pushed
 abbrev pub closing_number : Closing → ℕ
@@ -67,8 +76,11 @@ attempts_told (closing.Complete n) = n
 attempts_told (closing.WritingBack n) = n
 
 abbrev pub granted_number : {W : Type 0} → Granted W → ℕ
+granted_number (granted.Begun m) = 0
+granted_number (granted.Word w) = 0
+granted_number granted.Done = 0
 granted_number (granted.Closed c) = closing_number c
-granted_number g = 0
+granted_number (granted.SlotsLeft n) = 0
 
 -- a word is shown as the kind of word has it, every other value as a number
 abbrev pub granted_value : {W V : Type 0} → (W → V) → (ℕ → V) → Granted W → Option V

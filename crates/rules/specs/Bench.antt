@@ -3,19 +3,24 @@ use Rattle.std.specs.Prelude.{ℕ, ◌+◌, ◌%◌, Bool, not, ◌&&◌, ◌||�
 use Rattle.std.specs.List.{list_any, list_all}
 use Rattle.parts.specs.declared.types.Cause.TheVariants.{Conflict, Lock}
 use Rattle.rules.specs.declared.types.Head.{Head}
+use Rattle.rules.specs.declared.types.Lists.{Lists}
 use Rattle.rules.specs.declared.types.Slot.{Slot}
 use Rattle.rules.specs.declared.types.Snapshot.{Snapshot}
 use Rattle.rules.specs.declared.types.State.{State}
 use Rattle.rules.specs.declared.types.Table.{Table}
-use Rattle.rules.specs.Kit.{Kit}
+use Rattle.rules.specs.Kit.{Memory}
 use Rattle.rules.specs.Logs.{touches, log_of, holds, cells_loaded}
 use Rattle.rules.specs.Heads.{new_head, is_hardware, abort}
 
-pub record Bench (W : Type 0) : Type 0 where
-  pub table : Table
+-- of a rig that keeps a table of any kind (T)
+pub record BenchOf (T W : Type 0) : Type 0 where
+  pub table : T
   pub cells : List W
   pub reads : List (Slot W)
   pub writes : List (Slot W)
+
+abbrev pub Bench : Type 0 → Type 0
+Bench W = BenchOf Table W
 
 abbrev pub is_odd : ℕ → Bool
 is_odd n = n % 2 == 1
@@ -30,8 +35,12 @@ map_at f k [] = []
 map_at f k (x ∷ xs) = f k x ∷ map_at f (k + 1) xs
 
 -- the bench of a table and three lists
-abbrev pub bench : {W : Type 0} → Table → List W → List (Slot W) → List (Slot W) → Bench W
+abbrev pub bench : {T W : Type 0} → T → List W → List (Slot W) → List (Slot W) → BenchOf T W
 bench t cells reads writes = record { table = t; cells = cells; reads = reads; writes = writes }
+
+-- and of three lists that are only looked into
+abbrev pub bench_with : {T W : Type 0} → T → Lists W → BenchOf T W
+bench_with t lists = bench t lists.cells.now lists.reads.now lists.writes.now
 
 -- the record of the head k, if there is such a head
 abbrev pub head_of : Table → ℕ → Option Head
@@ -69,13 +78,13 @@ module _ {W : Type 0} (b : Bench W) (k : ℕ) where
       then abort Conflict x
       else x
 
-module _ {W : Type 0} (kit : Kit W) (b : Bench W) (k : ℕ) where
+module _ {W : Type 0} (memory : Memory W) (b : Bench W) (k : ℕ) where
   -- the heads after the head k has loaded these cells, and after a hardware store of it to a cell
   abbrev pub after_loads : List ℕ → List Head
-  after_loads cs = map_at (abort_if_hit b k (hit_by_loads kit.line cs)) 0 b.table.heads
+  after_loads cs = map_at (abort_if_hit b k (hit_by_loads memory.line cs)) 0 b.table.heads
 
   abbrev pub after_store : ℕ → List Head
-  after_store c = map_at (abort_if_hit b k (hit_by_store kit.line c)) 0 b.table.heads
+  after_store c = map_at (abort_if_hit b k (hit_by_store memory.line c)) 0 b.table.heads
 
   -- whether the snapshot of the head k is the present one
   abbrev pub is_current : Bool
@@ -84,10 +93,10 @@ module _ {W : Type 0} (kit : Kit W) (b : Bench W) (k : ℕ) where
 
   -- validation is skipped while the snapshot is current: whether the head k goes on, and the cells that it has loaded for it
   abbrev pub is_valid : Bool
-  is_valid = is_current || list_all (holds kit.same b.cells) (read_log b k)
+  is_valid = is_current || list_all (holds memory.same b.cells) (read_log b k)
 
   abbrev pub cells_validated : List ℕ
-  cells_validated = if is_current then [] else cells_loaded kit.same b.cells (read_log b k)
+  cells_validated = if is_current then [] else cells_loaded memory.same b.cells (read_log b k)
 
 -- when the sequence lock is taken, every head in hardware aborts
 abbrev pub is_locked_out : State → Bool

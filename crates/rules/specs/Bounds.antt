@@ -1,6 +1,8 @@
 -- How large the numbers get that a rig counts, whatever the lists hold: none of them ever runs over.
 use Rattle.std.specs.Prelude.{◌≡◌, ℕ, ◌+◌, ◌/◌, ◌≤◌, List, [], ◌∷◌, length, Ok, if◌then◌else◌, All}
 use Rattle.parts.specs.declared.calls.Call.{Call}
+use Rattle.parts.specs.declared.sizes.TheConstants.{MOST_HEADS, MOST_CELLS}
+use Rattle.rules.specs.declared.limits.TheConstants.{RECORDS, SLOTS, MOST_TRANSACTIONS, MOST_ATTEMPTS}
 use Rattle.rules.specs.declared.types.Caller.{Caller}
 use Rattle.rules.specs.declared.types.Head.{Head}
 use Rattle.rules.specs.declared.types.Table.{Table}
@@ -12,12 +14,12 @@ use Rattle.rules.specs.Answers.{call_of}
 
 -- both logs are in their slots, each hardware abort was an attempt, and a head that writes back has a slot left to push
 pub record HeadBounds (h : Head) : Type 0 where
-  pub reads : h.read_count ≤ 32
-  pub writes : h.write_count ≤ 32
+  pub reads : h.read_count ≤ SLOTS
+  pub writes : h.write_count ≤ SLOTS
   pub hardware_aborts : h.hardware_aborts + (if is_hardware h.state then 1 else 0) ≤ h.attempts
-  pub attempts : h.attempts ≤ 70_000
+  pub attempts : h.attempts ≤ MOST_ATTEMPTS
   pub stores : h.stores ≤ 65_535
-  pub written : h.written ≤ 32
+  pub written : h.written ≤ SLOTS
   pub unfinished : (if is_writing_back h.state then h.written + 1 else 0) ≤ h.write_count
 
 -- how many heads have a transaction
@@ -28,12 +30,12 @@ active_heads (h ∷ heads) = (if is_idle h.state then 0 else 1) + active_heads h
 -- each transaction under way and each commit counted has used up one that was opened
 pub record InBounds (t : Table) : Type 0 where
   pub heads : All HeadBounds t.heads
-  pub eight : length t.heads ≡ 8
-  pub few_heads : t.head_count ≤ 8
-  pub few_cells : t.cell_count ≤ 1024
+  pub eight : length t.heads ≡ RECORDS
+  pub few_heads : t.head_count ≤ MOST_HEADS
+  pub few_cells : t.cell_count ≤ MOST_CELLS
   -- so empty lists are too short for every rig
   pub some_cells : 1 ≤ t.cell_count
-  pub opened : t.opened ≤ 60_000
+  pub opened : t.opened ≤ MOST_TRANSACTIONS
   pub numbered : All (λ (h : Head). h.transaction ≤ t.opened) t.heads
   pub used : active_heads t.heads + (t.commits + t.sequence / 2) ≤ t.opened
 

@@ -3,6 +3,7 @@ use Rattle.std.specs.Prelude.{◌≡◌, ℕ, ◌+◌, ◌<◌, ◌≤◌, Bool,
 use Rattle.parts.specs.declared.types.Cause.{Cause}
 use Rattle.parts.specs.declared.calls.Call.{Call}
 use Rattle.parts.specs.declared.calls.Call.TheVariants.{Open, Close, Push}
+use Rattle.rules.specs.declared.limits.TheConstants.{SLOTS}
 use Rattle.rules.specs.declared.types.Caller.{Caller}
 use Rattle.rules.specs.declared.types.Granted.{Granted}
 use Rattle.rules.specs.declared.types.Refusal.{Refusal}
@@ -70,8 +71,8 @@ module _ {W : Type 0} (kit : Kit W) where
   abbrev pub OthersSlotsStay : Type 0
   OthersSlotsStay =
       (b : Bench W) (who : Caller) (call : Call ℕ W) (j : ℕ) → InBounds b.table → j ≢ who.head
-      → (log_of j 32 (left b who call).reads ≡ log_of j 32 b.reads)
-      × (log_of j 32 (left b who call).writes ≡ log_of j 32 b.writes)
+      → (log_of j SLOTS (left b who call).reads ≡ log_of j SLOTS b.reads)
+      × (log_of j SLOTS (left b who call).writes ≡ log_of j SLOTS b.writes)
 
   -- a handle calls as its head does, as long as its transaction is its head's
   abbrev pub HandlesCallAsHeads : Type 0
@@ -102,8 +103,8 @@ module _ {W : Type 0} (kit : Kit W) where
   -- a slot may name a cell that the rig does not have. Validation takes it as different and does not load it; putting a
   -- log into the cells, as a close and a push do, writes nothing for it
   pub record StrayCells : Type 0 where
-    pub differs : (cells : List W) (s : Slot W) → length cells ≤ s.cell → holds kit.same cells s ≡ false
-    pub not_loaded : (cells : List W) (log : List (Slot W)) → All (λ c. c < length cells) (cells_loaded kit.same cells log)
+    pub differs : (cells : List W) (s : Slot W) → length cells ≤ s.cell → holds kit.memory.same cells s ≡ false
+    pub not_loaded : (cells : List W) (log : List (Slot W)) → All (λ c. c < length cells) (cells_loaded kit.memory.same cells log)
     pub not_written : (s : Slot W) (cells : List W) → length cells ≤ s.cell → put_in (s ∷ []) cells ≡ cells
 
   pub record CallLaws : Type 0 where

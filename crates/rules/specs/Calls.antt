@@ -6,6 +6,8 @@ use Rattle.parts.specs.declared.types.Cause.TheVariants.{Capacity, Other, Change
 use Rattle.parts.specs.declared.types.Mode.{Mode}
 use Rattle.parts.specs.declared.types.Mode.TheVariants as mode
 use Rattle.parts.specs.declared.calls.Call.TheVariants.{Open, Read, Write, Close, Push, Jolt, Again, Drop}
+use Rattle.parts.specs.Sizes.{in_range}
+use Rattle.rules.specs.declared.limits.TheConstants.{RECORDS}
 use Rattle.rules.specs.declared.types.Caller.{Caller}
 use Rattle.rules.specs.declared.types.Closing.{Closing}
 use Rattle.rules.specs.declared.types.Closing.TheVariants as closing
@@ -15,28 +17,28 @@ use Rattle.rules.specs.declared.types.Head.{Head}
 use Rattle.rules.specs.declared.types.Slot.{Slot}
 use Rattle.rules.specs.declared.types.State.TheVariants.{Idle, WritingBack}
 use Rattle.rules.specs.declared.types.Table.{Table}
-use Rattle.rules.specs.Kit.{Kit}
+use Rattle.rules.specs.Kit.{Memory, Retries}
 use Rattle.rules.specs.Logs.{is_empty, word_for, put, note, lines_touched, lines_touched_with, put_in, slots_with}
 use Rattle.rules.specs.Heads.{new_head, is_hardware, empty_logs, abort, with_transaction, begin, next_mode, stores_after}
-use Rattle.rules.specs.Bench.{Bench, head_at, read_log, write_log, table_with, present_snapshot, after_loads, after_store, lock_out, is_valid, cells_validated}
+use Rattle.rules.specs.Bench.{BenchOf, Bench, head_at, read_log, write_log, table_with, present_snapshot, after_loads, after_store, lock_out, is_valid, cells_validated}
 use Rattle.rules.specs.Refusals.{refusal}
 
--- what a call answers and leaves
-pub record Outcome (A W : Type 0) : Type 0 where
+-- what a call answers and leaves, on a rig that keeps a table of any kind (T)
+pub record OutcomeOf (T A W : Type 0) : Type 0 where
   pub answer : Result A Refusal
-  pub left : Bench W
+  pub left : BenchOf T W
+
+abbrev pub Outcome : Type 0 → Type 0 → Type 0
+Outcome A W = OutcomeOf Table A W
 
 -- an outcome of these two parts
-abbrev pub outcome : {A W : Type 0} → Result A Refusal → Bench W → Outcome A W
+abbrev pub outcome : {T A W : Type 0} → Result A Refusal → BenchOf T W → OutcomeOf T A W
 outcome answer b = record { answer = answer; left = b }
 
--- set-up: 1 to 8 heads and 1 to 1,024 cells; nothing is written into a list
-abbrev pub in_range : ℕ → ℕ → Bool
-in_range heads cells = (nat_le 1 heads && nat_le heads 8) && (nat_le 1 cells && nat_le cells 1024)
-
+-- set-up, of a size that a rig may have: every head is idle, every number 0, and nothing is written into a list
 abbrev pub new_table : ℕ → ℕ → Table
 new_table heads cells = record {
-  heads = replicate 8 new_head;
+  heads = replicate RECORDS new_head;
   head_count = heads;
   cell_count = cells;
   sequence = 0;
@@ -48,25 +50,25 @@ abbrev pub set_up : ℕ → ℕ → Result Table Refusal
 set_up heads cells = if in_range heads cells then Ok (new_table heads cells) else Err refuse.OutOfRange
 
 -- a refusal that is found before the call is carried out changes nothing
-abbrev pub refuses : {A W : Type 0} → Bench W → Refusal → Outcome A W
+abbrev pub refuses : {T A W : Type 0} → BenchOf T W → Refusal → OutcomeOf T A W
 refuses b e = outcome (Err e) b
 
-abbrev pub unless : {A W : Type 0} → Option Refusal → Bench W → Outcome A W → Outcome A W
+abbrev pub unless : {T A W : Type 0} → Option Refusal → BenchOf T W → OutcomeOf T A W → OutcomeOf T A W
 unless None b granted = granted
 unless (Some e) b granted = refuses b e
 
 -- with the word of a cell; whether there is such a cell has been looked for before
-abbrev pub with_word : {A W : Type 0} → Option W → Bench W → (W → Outcome A W) → Outcome A W
+abbrev pub with_word : {T A W : Type 0} → Option W → BenchOf T W → (W → OutcomeOf T A W) → OutcomeOf T A W
 with_word None b granted = refuses b refuse.NoCell
 with_word (Some w) b granted = granted w
 
 -- by the log's word, or else by the cell's
-abbrev pub logged_or : {A W : Type 0} → Option W → (W → Outcome A W) → Outcome A W → Outcome A W
+abbrev pub logged_or : {T A W : Type 0} → Option W → (W → OutcomeOf T A W) → OutcomeOf T A W → OutcomeOf T A W
 logged_or None logged loaded = loaded
 logged_or (Some w) logged loaded = logged w
 
 -- another table, and the lists as they are
-abbrev pub leaves : {A W : Type 0} → Bench W → Result A Refusal → Table → Outcome A W
+abbrev pub leaves : {T A W : Type 0} → BenchOf T W → Result A Refusal → T → OutcomeOf T A W
 leaves b answer t = record { answer = answer; left = record b { table = t } }
 
 module _ {W : Type 0} (b : Bench W) (k : ℕ) where
@@ -109,17 +111,18 @@ module _ {W : Type 0} (b : Bench W) (k : ℕ) where
   abbrev pub admitted_drop : Outcome (Unit {0}) W
   admitted_drop = becomes (Ok tt) (record (empty_logs (head_at b k)) { state = Idle })
 
-module _ {W : Type 0} (kit : Kit W) (b : Bench W) (k : ℕ) where
+module _ {W : Type 0} (policy : Retries) (b : Bench W) (k : ℕ) where
+  -- again: the next attempt
+  abbrev pub again_mode : Mode
+  again_mode = next_mode policy.next (head_at b k).hardware_aborts (head_at b k).state
+
+  abbrev pub admitted_again : Outcome Mode W
+  admitted_again = becomes b k (Ok again_mode) (begin again_mode (present_snapshot b.table) (head_at b k))
+
+module _ {W : Type 0} (memory : Memory W) (b : Bench W) (k : ℕ) where
   -- the head that calls
   abbrev me : Head
   me = head_at b k
-
-  -- again: the next attempt
-  abbrev pub again_mode : Mode
-  again_mode = next_mode kit.next me.hardware_aborts me.state
-
-  abbrev pub admitted_again : Outcome Mode W
-  admitted_again = becomes b k (Ok again_mode) (begin again_mode (present_snapshot b.table) me)
 
   -- read, of a cell that holds w: the word is noted in the read log
   abbrev pub notes_word : List Head → Head → ℕ → W → Outcome W W
@@ -136,21 +139,21 @@ module _ {W : Type 0} (kit : Kit W) (b : Bench W) (k : ℕ) where
   -- in hardware the attempt must fit with that cell's line touched
   abbrev pub fits_read : ℕ → Bool
   fits_read c =
-      kit.fits me.stores (lines_touched_with kit.line c (read_log b k) (write_log b k))
+      memory.fits me.stores (lines_touched_with memory.line c (read_log b k) (write_log b k))
 
   abbrev pub hardware_read : ℕ → W → Outcome W W
   hardware_read c w =
       if fits_read c
-      then notes_word (after_loads kit b k (c ∷ [])) me c w
+      then notes_word (after_loads memory b k (c ∷ [])) me c w
       else aborts_in b k b.table.heads Capacity me
 
   -- in software what was read before must still be valid
   abbrev pub software_read : ℕ → W → Outcome W W
   software_read c w =
-      let loaded = cells_validated kit b k in
-      if is_valid kit b k
-      then notes_word (after_loads kit b k (loaded ++ (c ∷ []))) (record me { snapshot = present_snapshot b.table }) c w
-      else aborts_in b k (after_loads kit b k loaded) Changed me
+      let loaded = cells_validated memory b k in
+      if is_valid memory b k
+      then notes_word (after_loads memory b k (loaded ++ (c ∷ []))) (record me { snapshot = present_snapshot b.table }) c w
+      else aborts_in b k (after_loads memory b k loaded) Changed me
 
   abbrev pub admitted_read : ℕ → Outcome W W
   admitted_read c =
@@ -163,12 +166,12 @@ module _ {W : Type 0} (kit : Kit W) (b : Bench W) (k : ℕ) where
       record { answer = answer; left = record b { table = table_with b k heads h; writes = slots_with k log b.writes } }
 
   abbrev pub fits_write : List (Slot W) → Head → Bool
-  fits_write log h = kit.fits h.stores (lines_touched kit.line (read_log b k) log)
+  fits_write log h = memory.fits h.stores (lines_touched memory.line (read_log b k) log)
 
   abbrev pub hardware_write : ℕ → List (Slot W) → Head → Outcome (Unit {0}) W
   hardware_write c log h =
       if fits_write log h
-      then puts_word (Ok tt) log (after_store kit b k c) h
+      then puts_word (Ok tt) log (after_store memory b k c) h
       else puts_word (Err (refuse.Aborted Capacity)) log b.table.heads (abort Capacity h)
 
   abbrev pub admitted_write : ℕ → W → Outcome (Unit {0}) W
@@ -190,15 +193,15 @@ module _ {W : Type 0} (kit : Kit W) (b : Bench W) (k : ℕ) where
   -- in software the sequence lock is taken, which aborts every hardware head, and the log is pushed slot by slot
   abbrev pub start_write_back : Outcome Closing W
   start_write_back =
-      let heads = map lock_out (after_loads kit b k (cells_validated kit b k)) in
+      let heads = map lock_out (after_loads memory b k (cells_validated memory b k)) in
       let h = record me { state = WritingBack; written = 0; snapshot = present_snapshot b.table } in
       leaves b (Ok (closing.WritingBack h.attempts)) (record (table_with b k heads h) { sequence = b.table.sequence + 1 })
 
   abbrev pub software_close : Outcome Closing W
   software_close =
-      if is_valid kit b k
+      if is_valid memory b k
       then start_write_back
-      else aborts_in b k (after_loads kit b k (cells_validated kit b k)) Changed me
+      else aborts_in b k (after_loads memory b k (cells_validated memory b k)) Changed me
 
   abbrev pub admitted_close : Outcome Closing W
   admitted_close =
@@ -223,15 +226,16 @@ module _ {W : Type 0} (b : Bench W) (who : Caller) where
   abbrev pub drop_of : Outcome (Unit {0}) W
   drop_of = unless (refusal b who Drop) b (admitted_drop b who.head)
 
-module _ {W : Type 0} (kit : Kit W) (b : Bench W) (who : Caller) where
+module _ {W : Type 0} (memory : Memory W) (b : Bench W) (who : Caller) where
   abbrev pub read_of : ℕ → Outcome W W
-  read_of c = unless (refusal b who (Read c)) b (admitted_read kit b who.head c)
+  read_of c = unless (refusal b who (Read c)) b (admitted_read memory b who.head c)
 
   abbrev pub write_of : ℕ → W → Outcome (Unit {0}) W
-  write_of c w = unless (refusal b who (Write c w)) b (admitted_write kit b who.head c w)
+  write_of c w = unless (refusal b who (Write c w)) b (admitted_write memory b who.head c w)
 
   abbrev pub close_of : Outcome Closing W
-  close_of = unless (refusal b who Close) b (admitted_close kit b who.head)
+  close_of = unless (refusal b who Close) b (admitted_close memory b who.head)
 
+module _ {W : Type 0} (policy : Retries) (b : Bench W) (who : Caller) where
   abbrev pub again_of : Outcome Mode W
-  again_of = unless (refusal b who Again) b (admitted_again kit b who.head)
+  again_of = unless (refusal b who Again) b (admitted_again policy b who.head)

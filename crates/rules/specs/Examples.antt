@@ -18,10 +18,16 @@ use Rattle.rules.specs.Runs.{answers_of, left_by}
 
 -- the two boards, each under a margin
 abbrev pub on_lines : Kit ℤ
-on_lines = record { same = same_amount; line = lines_line; fits = with_margin lines_fit; next = plain_mode; patience = 3 }
+on_lines = record {
+  memory = record { same = same_amount; line = lines_line; fits = with_margin lines_fit };
+  policy = record { next = plain_mode; patience = 3 };
+}
 
 abbrev pub on_stores : Kit ℤ
-on_stores = record { same = same_amount; line = stores_line; fits = with_margin stores_fit; next = plain_mode; patience = 3 }
+on_stores = record {
+  memory = record { same = same_amount; line = stores_line; fits = with_margin stores_fit };
+  policy = record { next = plain_mode; patience = 3 };
+}
 
 -- a rig of so many heads and cells that is set up, and the amounts that its cells hold
 abbrev pub rig_with : ℕ → ℕ → List ℕ → Bench ℤ

@@ -1,6 +1,7 @@
 -- Logs. A log is a list of slots, the lowest first; the lowest slot that names a cell counts.
 use Rattle.std.specs.List.{slice_get, list_any}
 use Rattle.std.specs.Prelude.{ℕ, suc, ◌+◌, ◌*◌, Bool, true, false, not, ◌&&◌, List, [], ◌∷◌, ◌++◌, map, length, take, drop, Some, None, Option, ◌==◌, nat_lt, nat_le, slice_set, if◌then◌else◌}
+use Rattle.rules.specs.declared.limits.TheConstants.{SLOTS}
 use Rattle.rules.specs.declared.types.Slot.{Slot}
 
 abbrev pub is_empty : {X : Type 0} → List X → Bool
@@ -28,9 +29,9 @@ put c w (s ∷ log) = if c == s.cell then slot c w ∷ log else s ∷ put c w lo
 abbrev pub note : {W : Type 0} → ℕ → W → List (Slot W) → List (Slot W)
 note c w log = if names c log then log else log ++ (slot c w ∷ [])
 
--- a new slot is needed for the cell, and the log has 32
+-- a new slot is needed for the cell, and the log has them all
 abbrev pub lacks_room_for : {W : Type 0} → ℕ → List (Slot W) → Bool
-lacks_room_for c log = not (names c log) && nat_le 32 (length log)
+lacks_room_for c log = not (names c log) && nat_le SLOTS (length log)
 
 -- whether a cell of the log is on the line
 abbrev pub touches : {W : Type 0} → (ℕ → ℕ) → ℕ → List (Slot W) → Bool
@@ -75,10 +76,10 @@ module _ {W : Type 0} (same : W → W → Bool) (cells : List W) where
   cells_loaded (s ∷ log) =
       if holds s then s.cell ∷ cells_loaded log else (if nat_lt s.cell (length cells) then s.cell ∷ [] else [])
 
--- the log of the head k: the first n of its 32 slots
+-- the log of the head k: the first n of its slots
 abbrev pub log_of : {W : Type 0} → ℕ → ℕ → List (Slot W) → List (Slot W)
-log_of k n slots = take n (drop (32 * k) slots)
+log_of k n slots = take n (drop (SLOTS * k) slots)
 
 -- the slots with a log laid over the first ones of the head k
 abbrev pub slots_with : {W : Type 0} → ℕ → List (Slot W) → List (Slot W) → List (Slot W)
-slots_with k log slots = take (32 * k) slots ++ (log ++ drop (32 * k + length log) slots)
+slots_with k log slots = take (SLOTS * k) slots ++ (log ++ drop (SLOTS * k + length log) slots)

@@ -2,6 +2,7 @@
 use Rattle.std.specs.Prelude.{ℕ, ◌*◌, Bool, true, false, not, ◌&&◌, ◌||◌, List, [], ◌∷◌, length, Some, None, Option, ◌==◌, nat_le}
 use Rattle.parts.specs.declared.calls.Call.{Call}
 use Rattle.parts.specs.declared.calls.Call.TheVariants.{Open, Read, Write, Close, Push, Jolt, Again, Drop}
+use Rattle.rules.specs.declared.limits.TheConstants.{SLOTS, MOST_TRANSACTIONS, MOST_ATTEMPTS}
 use Rattle.rules.specs.declared.types.Caller.{Caller}
 use Rattle.rules.specs.declared.types.Refusal.{Refusal}
 use Rattle.rules.specs.declared.types.Refusal.TheVariants as refuse
@@ -19,11 +20,11 @@ by_number k = record { head = k; transaction = None }
 abbrev pub by_handle : ℕ → ℕ → Caller
 by_handle k n = record { head = k; transaction = Some n }
 
--- a list must have a word for each cell, or 32 slots for each head
+-- a list must have a word for each cell, or a log's slots for each head
 abbrev pub lengths_match : {W : Type 0} → Bench W → Bool
 lengths_match b =
     (length b.cells == b.table.cell_count)
-    && (length b.reads == 32 * b.table.head_count && length b.writes == 32 * b.table.head_count)
+    && (length b.reads == SLOTS * b.table.head_count && length b.writes == SLOTS * b.table.head_count)
 
 -- a handle is stale if its transaction is not its head's
 abbrev pub is_stale : Option ℕ → Head → Bool
@@ -70,11 +71,11 @@ module _ {W : Type 0} (b : Bench W) (k : ℕ) where
   lacks_slot call = false
 
   abbrev pub lacks_transaction : Call ℕ W → Bool
-  lacks_transaction Open = nat_le 60_000 b.table.opened
+  lacks_transaction Open = nat_le MOST_TRANSACTIONS b.table.opened
   lacks_transaction call = false
 
   abbrev pub lacks_attempt : Call ℕ W → Bool
-  lacks_attempt Again = nat_le 70_000 (head_at b k).attempts
+  lacks_attempt Again = nat_le MOST_ATTEMPTS (head_at b k).attempts
   lacks_attempt call = false
 
 abbrev pub when : Bool → Refusal → Option Refusal

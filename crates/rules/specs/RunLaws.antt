@@ -63,7 +63,7 @@ LawsHold patience cells now calls answers = ThreeLaws patience cells now (histor
 abbrev pub LawsOfRuns : {W : Type 0} → Kit W → Type 0
 LawsOfRuns {W} kit =
     (heads cells : ℕ) (b : Bench W) (calls : List (MadeCall W)) → set_up heads cells ≡ Ok b.table
-    → LawsHold kit.patience b.cells (left_by kit b calls).cells calls (answers_of kit b calls)
+    → LawsHold kit.policy.patience b.cells (left_by kit b calls).cells calls (answers_of kit b calls)
 
 -- the calls that end a transaction, where they are granted
 abbrev pub ends : {W : Type 0} → Call ℕ W → Bool

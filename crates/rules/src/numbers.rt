@@ -30,8 +30,9 @@ impl<W> Granted<W> {
         ensures { result ≡ granted_number self.now }
     {
         match self {
+            Granted::Begun(_) | Granted::Word(_) | Granted::Done | Granted::SlotsLeft(_) => 0,
+            Granted::Closed(Closing::Complete(_)) => 0,
             Granted::Closed(Closing::WritingBack(_)) => 1,
-            _ => 0,
         }
     }
 }

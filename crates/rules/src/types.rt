@@ -1,8 +1,10 @@
 // The plain data of the rig.
+use crate::limits::RECORDS;
 use parts::{Call, Cause, Mode};
+use thiserror::Error;
 
 // What a head is doing.
-#[derive(Clone, Copy)]
+#[derive(Clone, Copy, Debug, PartialEq, Eq)]
 pub enum State {
     // no transaction
     Idle,
@@ -17,7 +19,7 @@ pub enum State {
 }
 
 // The two shared numbers as a software attempt last found its reads valid.
-#[derive(Clone, Copy)]
+#[derive(Clone, Copy, Debug, PartialEq, Eq)]
 pub struct Snapshot {
     pub sequence: u32,
     pub commits: u32,
@@ -25,7 +27,7 @@ pub struct Snapshot {
 
 // What the rig keeps of a head: plain numbers, each of which stands whatever the state.
 // Its logs stand in the slot lists, which the caller lends, and only their counts here.
-#[derive(Clone, Copy)]
+#[derive(Clone, Copy, Debug, PartialEq, Eq)]
 pub struct Head {
     pub state: State,
     // the number of its latest transaction
@@ -46,17 +48,17 @@ pub struct Head {
 }
 
 // A slot of a log: a cell and a word.
-#[derive(Clone, Copy)]
+#[derive(Clone, Copy, Debug, PartialEq, Eq)]
 pub struct Slot<W> {
     pub cell: u32,
     pub word: W,
 }
 
 // All that a rig keeps beside its board and its policy: plain data that can be copied, in fixed memory.
-#[derive(Clone, Copy)]
+#[derive(Clone, Copy, Debug, PartialEq, Eq)]
 pub struct Table {
     // the first `head_count` are in use
-    pub heads: [Head; 8],
+    pub heads: [Head; RECORDS],
     pub head_count: u32,
     pub cell_count: u32,
     // the sequence lock: odd while a software commit writes back
@@ -68,7 +70,7 @@ pub struct Table {
 }
 
 // Who calls: a head by its number, or the handle of one of its transactions.
-#[derive(Clone, Copy)]
+#[derive(Clone, Copy, Debug, PartialEq, Eq)]
 pub struct Caller {
     pub head: u32,
     // the transaction number that the handle holds
@@ -77,14 +79,14 @@ pub struct Caller {
 
 // A granted close, with the attempts of the transaction: done, or its writes are still to be pushed.
 // Not a `Result`: neither case is a failure.
-#[derive(Clone, Copy)]
+#[derive(Clone, Copy, Debug, PartialEq, Eq)]
 pub enum Closing {
     Complete(u32),
     WritingBack(u32),
 }
 
 // What a granted call gives.
-#[derive(Clone, Copy)]
+#[derive(Clone, Copy, Debug, PartialEq, Eq)]
 pub enum Granted<W> {
     // how the attempt runs that open or again began
     Begun(Mode),
@@ -97,38 +99,52 @@ pub enum Granted<W> {
     SlotsLeft(u8),
 }
 
-// Why a call is not granted.
-#[derive(Clone, Copy)]
+/// Why a call is not granted.
+#[derive(Clone, Copy, Debug, PartialEq, Eq, Error)]
 pub enum Refusal {
-    // a list is not as long as the cells, or as 32 slots for each head
+    #[error("a list is not as long as the cells, or as the slots of all heads")]
     Lists,
+    #[error("the rig has no such head")]
     NoHead,
+    #[error("the rig has no such cell")]
     NoCell,
-    // the head's state does not take the call
+    #[error("the head's state does not take the call")]
     NotTaken,
     // the head has aborted already, or aborts in this call
+    #[error("the attempt has aborted, by {0:?}")]
     Aborted(Cause),
-    // a software commit is writing back
+    #[error("a software commit is writing back")]
     Busy,
-    // a new slot is needed and the log has 32
+    #[error("a new slot is needed, and the log has them all")]
     Full,
+    #[error("the rig opens no more transactions")]
     OutOfTransactions,
+    #[error("the transaction is tried no more")]
     OutOfAttempts,
-    // a rig with no head or cell, or with so many, is not set up
+    // such a rig is not set up
+    #[error("no rig has so few or so many heads or cells")]
     OutOfRange,
-    // the handle's transaction is not its head's
+    #[error("the handle's transaction is not its head's")]
     StaleHandle,
 }
 
+/// The three lists that are lent for a call which changes none of them. A call that changes one takes the three apart.
+#[derive(Clone, Copy, Debug)]
+pub struct Lists<'a, W> {
+    pub cells: &'a [W],
+    pub reads: &'a [Slot<W>],
+    pub writes: &'a [Slot<W>],
+}
+
 // The lists that a call gets: as the last call with right lengths left them, or one of them of wrong length.
-#[derive(Clone, Copy)]
+#[derive(Clone, Copy, Debug, PartialEq, Eq)]
 pub enum LentLists {
     Right,
     Wrong,
 }
 
 // A call as it is made: who makes it, with which lists.
-#[derive(Clone, Copy)]
+#[derive(Clone, Copy, Debug, PartialEq, Eq)]
 pub struct MadeCall<W> {
     pub lent: LentLists,
     pub caller: Caller,

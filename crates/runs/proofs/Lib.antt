@@ -1,2 +1,3 @@
+mod Answered
 mod Whole
 pub mod Places

@@ -29,7 +29,7 @@ module _ {W : Type 0} (kit : Kit W) (law : Lawful kit) (heads count : ℕ) (cell
         answers = gives;
         left = leaves;
         laws =
-            subst (λ xs. LawsHold kit.patience cells xs calls given) (sym (ap (λ (b : Bench W). b.cells) leaves))
-            (subst (LawsHold kit.patience cells (left_by kit start calls).cells calls) (sym gives) (laws-of-runs kit law heads count start calls (up ∙ ap Ok new)));
+            subst (λ xs. LawsHold kit.policy.patience cells xs calls given) (sym (ap (λ (b : Bench W). b.cells) leaves))
+            (subst (LawsHold kit.policy.patience cells (left_by kit start calls).cells calls) (sym gives) (laws-of-runs kit law heads count start calls (up ∙ ap Ok new)));
         handles = subst (HandlesEnd calls) (sym gives) (handles-end-in-runs kit heads count start calls (up ∙ ap Ok new));
       }

@@ -15,7 +15,7 @@ use Rattle.runs.specs.declared.types.RunError.TheVariants as error
 pub record Ran {W : Type 0} (kit : Kit W) (start : Bench W) (calls : List (MadeCall W)) (given : List (Answer W)) (now : Bench W) : Type 0 where
   pub answers : given ≡ answers_of kit start calls
   pub left : now ≡ left_by kit start calls
-  pub laws : LawsHold kit.patience start.cells now.cells calls given
+  pub laws : LawsHold kit.policy.patience start.cells now.cells calls given
   pub handles : HandlesEnd calls given
 
 -- a rig is set up exactly where the rule book says so; want of memory comes after that

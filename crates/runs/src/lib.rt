@@ -6,5 +6,5 @@ mod runs;
 mod types;
 
 pub use calls::make;
-pub use runs::run;
-pub use types::{Answer, Calls, Run, RunError, SetUp};
+pub use runs::{run, run_with};
+pub use types::{Answer, Calls, Run, RunError, RunWith, SetUp};

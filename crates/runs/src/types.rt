@@ -83,6 +83,13 @@ pub struct Run<B, P, W> {
     pub answers: Vec<Answer<W>>,
 }
 
+// The rig as the calls have left it, whose answers are in a lent list, and how many calls were made.
+#[derive(Drop)]
+pub struct RunWith<B, P> {
+    pub rig: Rig<B, P>,
+    pub count: usize,
+}
+
 // Why no call was made.
 #[derive(Drop)]
 pub enum RunError {

@@ -30,11 +30,8 @@ patience_named policy.Careful = 16
 -- amounts on any board, under a policy by its name
 abbrev pub kit_on : (ℕ → ℕ) → (ℕ → ℕ → Bool) → PolicyName → Kit ℤ
 kit_on line fits p = record {
-  same = same_amount;
-  line = line;
-  fits = fits;
-  next = next_named p;
-  patience = patience_named p;
+  memory = record { same = same_amount; line = line; fits = fits };
+  policy = record { next = next_named p; patience = patience_named p };
 }
 
 abbrev pub kit_named : BoardName → PolicyName → Kit ℤ

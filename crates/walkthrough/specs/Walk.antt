@@ -23,7 +23,7 @@ with_pushes who answer b = b
 
 -- a close, and what is then to be pushed
 abbrev pub committed : Bench ℤ → Caller → Bench ℤ
-committed b who = with_pushes who (close_of on_lines b who).answer (close_of on_lines b who).left
+committed b who = with_pushes who (close_of on_lines.memory b who).answer (close_of on_lines.memory b who).left
 
 abbrev pub mode_text : Mode → List ℕ
 mode_text Hardware = codes "hardware"

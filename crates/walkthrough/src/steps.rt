@@ -44,7 +44,7 @@ impl Bench {
         cell: u32,
     ) -> Result<(), Stopped>
         ensures left { on_bench self.new
-            ≡ (read_of on_lines (on_bench self.old) (by_handle handle.now.head handle.now.transaction) cell).left }
+            ≡ (read_of on_lines.memory (on_bench self.old) (by_handle handle.now.head handle.now.transaction) cell).left }
         ensures cells { self.new.cells ≡ self.old.cells }
     {
         match handle.read(
@@ -72,7 +72,7 @@ impl Bench {
         word: i32,
     ) -> Result<(), Stopped>
         ensures left { on_bench self.new
-            ≡ (write_of on_lines (on_bench self.old) (by_handle handle.now.head handle.now.transaction) cell word).left }
+            ≡ (write_of on_lines.memory (on_bench self.old) (by_handle handle.now.head handle.now.transaction) cell word).left }
         ensures cells { self.new.cells ≡ self.old.cells }
     {
         handle.write(
@@ -117,7 +117,7 @@ impl Bench {
     ) -> Result<Running, Stopped>
         ensures handle { IfOk result (λ h. (h.head ≡ handle.head) × (h.transaction ≡ handle.transaction)) }
         ensures left { let who = by_handle handle.head handle.transaction in
-            IfOk result (λ _. on_bench self.new ≡ (again_of on_lines (on_bench self.old) who).left) }
+            IfOk result (λ _. on_bench self.new ≡ (again_of on_lines.policy (on_bench self.old) who).left) }
         ensures cells { self.new.cells ≡ self.old.cells }
     {
         let aborted = handle.into_aborted(&self.rig)?;

@@ -11,13 +11,13 @@ pub invariant_of-self : goal.invariant_of-self
 invariant_of-self g c =
     let b = bench c.args.self.now.table c.args.cells.now c.args.reads.now c.args.writes.now in
     let kit = kit_of g.W.Word g.B.Board g.P.Policy c.args.self.now.board c.args.self.now.policy in
-    record { in_bounds = left_in_bounds c.again.result (bench c.again.new.table c.args.cells.now c.args.reads.now c.args.writes.now) (again_of kit b c.args.who) (c.again.ensures kit refl) (bounds-kept kit b c.args.who Again c.args.self.now.in_bounds).0 }
+    record { in_bounds = left_in_bounds c.again.result (bench c.again.new.table c.args.cells.now c.args.reads.now c.args.writes.now) (again_of kit.policy b c.args.who) c.again.ensures (bounds-kept kit b c.args.who Again c.args.self.now.in_bounds).0 }
 
 pub returns-clause-outcome : goal.returns-clause-outcome
-returns-clause-outcome g c = c.again.ensures (kit_of g.W.Word g.B.Board g.P.Policy c.args.self.now.board c.args.self.now.policy) refl
+returns-clause-outcome g c = c.again.ensures
 
 pub returns-clause-lengths : goal.returns-clause-lengths
 returns-clause-lengths g c =
     let b = bench c.args.self.now.table c.args.cells.now c.args.reads.now c.args.writes.now in
     let kit = kit_of g.W.Word g.B.Board g.P.Policy c.args.self.now.board c.args.self.now.policy in
-    left_lengths kit c.args.who b Again c.again.result (c.again.ensures kit refl) refl c.args.self.now.in_bounds
+    left_lengths kit c.args.who b Again c.again.result c.again.ensures refl c.args.self.now.in_bounds

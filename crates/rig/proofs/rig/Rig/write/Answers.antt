@@ -4,7 +4,6 @@ use Rattle.rules.specs.Bench.{bench}
 use Rattle.rules.specs.Calls.{write_of}
 use Rattle.rules.specs.Kit.{kit_of}
 use Rattle.rules.proofs.KeptBounds.{bounds-kept}
-use Rattle.rig.specs.Kits.{parts_of}
 use Rattle.rig.proofs.KeptInBounds.{left_in_bounds, left_lengths}
 use Rattle.rig.proofs.rig.Rig.write.Goals as goal
 
@@ -12,13 +11,13 @@ pub invariant_of-self : goal.invariant_of-self
 invariant_of-self g c =
     let b = bench c.args.self.now.table c.args.cells.now c.args.reads.now c.args.writes.now in
     let kit = kit_of g.W.Word g.B.Board g.P.Policy c.args.self.now.board c.args.self.now.policy in
-    record { in_bounds = left_in_bounds c.write.result (bench c.write.new.table c.args.cells.now c.args.reads.now c.write.new.writes) (write_of kit b c.args.who c.args.cell c.args.word) (c.write.ensures (parts_of g.P.Policy c.args.self.now.policy)) (bounds-kept kit b c.args.who (Write c.args.cell c.args.word) c.args.self.now.in_bounds).0 }
+    record { in_bounds = left_in_bounds c.write.result (bench c.write.new.table c.args.cells.now c.args.reads.now c.write.new.writes) (write_of kit.memory b c.args.who c.args.cell c.args.word) (c.write.ensures) (bounds-kept kit b c.args.who (Write c.args.cell c.args.word) c.args.self.now.in_bounds).0 }
 
 pub returns-clause-outcome : goal.returns-clause-outcome
-returns-clause-outcome g c = c.write.ensures (parts_of g.P.Policy c.args.self.now.policy)
+returns-clause-outcome g c = c.write.ensures
 
 pub returns-clause-lengths : goal.returns-clause-lengths
 returns-clause-lengths g c =
     let b = bench c.args.self.now.table c.args.cells.now c.args.reads.now c.args.writes.now in
     let kit = kit_of g.W.Word g.B.Board g.P.Policy c.args.self.now.board c.args.self.now.policy in
-    left_lengths kit c.args.who b (Write c.args.cell c.args.word) c.write.result (c.write.ensures (parts_of g.P.Policy c.args.self.now.policy)) refl c.args.self.now.in_bounds
+    left_lengths kit c.args.who b (Write c.args.cell c.args.word) c.write.result (c.write.ensures) refl c.args.self.now.in_bounds

@@ -10,4 +10,4 @@ pub returns-in_err-write-clause-left : goal.returns-in_err-write-clause-left
 returns-in_err-write-clause-left c =
     let who = by_handle c.args.handle.now.head c.args.handle.now.transaction in
     ap (λ (o : Outcome (Unit {0}) ℤ). o.left) c.write.ensures.outcome
-    ∙ ap (λ (z : ℤ). (write_of on_lines (on_bench c.args.self.now) who c.args.cell z).left) (to_z-of_z w32 c.args.word c.ranges.word)
+    ∙ ap (λ (z : ℤ). (write_of on_lines.memory (on_bench c.args.self.now) who c.args.cell z).left) (to_z-of_z w32 c.args.word c.ranges.word)
