@@ -36,6 +36,11 @@ module _ {B P : Type 0} where
     pub policy : new.policy ≡ old.policy
     pub lengths : lengths_match after ≡ lengths_match before
 
+  -- the rig has this board and this policy
+  pub record IsOver (on : B) (under : P) (rig : Rig B P) : Type 0 where
+    pub board : rig.board ≡ on
+    pub policy : rig.policy ≡ under
+
   -- the rig is as set-up makes it
   pub record IsNew (heads cells : ℕ) (on : B) (under : P) (rig : Rig B P) : Type 0 where
     pub table : rig.table ≡ new_table heads cells
