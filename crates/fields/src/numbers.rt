@@ -1,5 +1,5 @@
 // The numbers and amounts that fields write.
-ghost use Rattle.std.specs.Prelude.{◌≢◌, ◌-◌, ◌≤◌, negsuc, SomeIff, IsTrue};
+ghost use Rattle.std.specs.Prelude.{◌≢◌, ◌-◌, ◌^◌, ◌<◌, ◌≤◌, negsuc, SomeIff, IsTrue};
 ghost use Rattle.std.specs.Str.{all_ascii_digits};
 ghost use Rattle.std.specs.Str.Parse.{digits_value};
 ghost use Rattle.fields.specs.Numbers.{Number, Amount, Reads, FieldRead, Begins};
@@ -23,7 +23,7 @@ fn field_of(bytes: &[u8]) -> Field
 // A loop of its own: `parse`, which wants text, costs over twice as much for the one or two digits of most numbers.
 #[tactic(auto, using(crate::proofs::Numerals::grown_by))]
 fn digits_value(bytes: &[u8]) -> Option<u32>
-    ensures { SomeIff result (IsTrue (all_ascii_digits bytes.now) × (digits_value 10 bytes.now ≤ 4294967295))
+    ensures { SomeIff result (IsTrue (all_ascii_digits bytes.now) × (digits_value 10 bytes.now < 2 ^ 32))
         (digits_value 10 bytes.now) }
 {
     let mut value: u32 = 0;
@@ -50,7 +50,7 @@ fn number_of(bytes: &[u8]) -> Option<u32>
 
 // -n, where that is below 0 and an amount.
 fn negated(n: u32) -> Option<i32>
-    ensures { SomeIff result ((n ≢ 0) × (n ≤ 2147483648)) (negsuc (n - 1)) }
+    ensures { SomeIff result ((n ≢ 0) × (n ≤ 2 ^ 31)) (negsuc (n - 1)) }
 {
     match n {
         0 => None,
