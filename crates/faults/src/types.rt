@@ -9,7 +9,7 @@ pub struct Place {
     pub byte: usize,
 }
 
-/// What is wrong with a field after the first of its line, and where the field begins.
+/// What is wrong with a field after the first of its line, and where the field begins (docs/RULES.md, "Faults").
 #[derive(Clone, Copy, Debug, PartialEq, Eq, Error)]
 pub enum FieldFault {
     #[error("{0}: the field is no board and no policy")]

@@ -9,12 +9,15 @@ use crate::parts::Part;
 use crate::types::Field;
 use faults::FieldFault;
 
+// The byte that an amount below 0 begins with.
+const MINUS: u8 = b'-';
+
 // How a field begins.
 fn field_of(bytes: &[u8]) -> Field
     ensures { Begins result bytes.now }
 {
     match bytes {
-        [b'-', digits @ ..] => Field::Minus(digits),
+        [MINUS, digits @ ..] => Field::Minus(digits),
         _ => Field::Plain(bytes),
     }
 }
@@ -69,7 +72,7 @@ fn amount_of(bytes: &[u8]) -> Option<i32>
 }
 
 impl Part<'_> {
-    // The number that the part writes.
+    /// The number that the part writes (docs/RULES.md, "The scenario"), or a fault at its place.
     // Two names in place of one generic call: they tell a reader which kind of field is meant.
     pub fn number(self) -> Result<u32, FieldFault>
         ensures { FieldRead (Number self.entry.bytes.now) (BadNumber self.entry.place) result }
@@ -77,7 +80,7 @@ impl Part<'_> {
         number_of(self.bytes).ok_or(FieldFault::BadNumber(self.place))
     }
 
-    // The amount that the part writes.
+    /// The amount that the part writes, or a fault at its place.
     pub fn amount(self) -> Result<i32, FieldFault>
         ensures { FieldRead (Amount self.entry.bytes.now) (BadNumber self.entry.place) result }
     {

@@ -91,7 +91,7 @@ fn all_fields<'a>(line: Line<'a>) -> Fields<'a>
 }
 
 impl<'a> Line<'a> {
-    // The fields of the line, of which there is at least one.
+    /// The fields of the line, of which there is at least one.
     pub fn fields(self) -> Fields<'a>
         ensures fields { result ≡ fields_at (line_piece self.entry) }
         ensures parted { FieldsOfLine (line_piece self.entry) result }
@@ -126,7 +126,7 @@ fn all_lines(text: &[u8]) -> Reader
 }
 
 impl<'a> Reader<'a> {
-    // A reader of the whole text, before its first line.
+    /// A reader of the whole text, before its first line.
     pub fn new(text: &'a [u8]) -> Reader<'a>
         ensures lines { result ≡ lines_at text_start text.now }
         ensures parted { Lined text.now result }

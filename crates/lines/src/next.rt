@@ -65,7 +65,8 @@ fn line_entry(stage: Stage, line: Line) -> Result<Entry, LineFault>
     Ok(said)
 }
 
-/// What the next line says, after lines that led to this stage; None where no line is left.
+/// What the next line says, after lines that led to this stage; None where no line is left. A line is refused with the
+/// first of the faults of docs/RULES.md, "Faults", in the order given there.
 pub fn next_entry(stage: Stage, reader: &mut Reader) -> Option<LineEntry>
     ensures next { NextRead stage reader.old reader.new result }
     ensures once { LineOnce }

@@ -24,7 +24,22 @@ use Rattle.std.specs.declared.alloc.AllocError.{AllocError}
 use Rattle.scenario.specs.declared.types.ReadError.TheVariants as error
 use Rattle.scenario.specs.Texts.{RigRead, LinesRead, start, lines_of_text, TextSays, long, empty, lined}
 use Rattle.scenario.specs.Holdings.{rig_line, in_order, Read, Checked}
-use Rattle.scenario.specs.Steps.{Held, nothing, listed, put, Orderly, stage_at, to_come, LineSaid, Sized, Ends, LinesCounted}
+use Rattle.scenario.specs.Steps.{Held, nothing, put, to_come, LineSaid, Sized, Ends, LinesCounted}
+
+-- what is held, in its order
+abbrev pub listed : Held → List Entry
+listed h = in_order h.rig h.settings h.calls
+
+-- what is held where a line of this stage comes next: an entry that may stand there goes to the end
+abbrev pub Orderly : Stage → Held → Type 0
+Orderly stage.Start h = h ≡ nothing
+Orderly (stage.Settings cells) h = h.calls ≡ []
+Orderly stage.Calls h = Unit {0}
+
+-- the stage after entries
+abbrev pub stage_at : Stage → List Entry → Stage
+stage_at s [] = s
+stage_at s (e ∷ es) = stage_at (stage_after s e) es
 
 -- an entry that may stand at a stage goes to the end of what is held
 

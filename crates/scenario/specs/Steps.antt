@@ -37,25 +37,11 @@ held s = record { rig = s.rig; settings = vec_items s.settings; calls = vec_item
 abbrev pub nothing : Held
 nothing = record { rig = None; settings = []; calls = [] }
 
-abbrev pub listed : Held → List Entry
-listed h = in_order h.rig h.settings h.calls
-
 -- with one entry more
 abbrev pub put : Held → Entry → Held
 put h (entry.Rig r) = record { rig = Some r; settings = h.settings; calls = h.calls }
 put h (entry.Set x) = record { rig = h.rig; settings = h.settings ++ (x ∷ []); calls = h.calls }
 put h (entry.Call k) = record { rig = h.rig; settings = h.settings; calls = h.calls ++ (k ∷ []) }
-
--- what is held where a line of this stage comes next: an entry that may stand there goes to the end
-abbrev pub Orderly : Stage → Held → Type 0
-Orderly stage.Start h = h ≡ nothing
-Orderly (stage.Settings cells) h = h.calls ≡ []
-Orderly stage.Calls h = Unit {0}
-
--- the stage after entries
-abbrev pub stage_at : Stage → List Entry → Stage
-stage_at s [] = s
-stage_at s (e ∷ es) = stage_at (stage_after s e) es
 
 -- the lines that are still to come
 abbrev pub to_come : Entries → List Piece
