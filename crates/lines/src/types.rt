@@ -14,7 +14,7 @@ pub enum Stage {
 
 // A line by its word, with as many fields as the word wants, each a part of the text.
 // Not one generic type with `Entry`: that would want four parameters, for numbers, amounts, boards and policies.
-#[derive(Clone, Copy, Debug, PartialEq, Eq)]
+#[derive(Clone, Copy)]
 pub enum LineParts<'a> {
     Rig {
         heads: Part<'a>,

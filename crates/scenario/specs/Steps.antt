@@ -12,7 +12,6 @@ use Rattle.entries.specs.declared.types.HeadCall.{HeadCall}
 use Rattle.entries.specs.declared.types.Entry.{Entry}
 use Rattle.entries.specs.declared.types.Entry.TheVariants as entry
 use Rattle.lines.specs.declared.types.Stage.{Stage}
-use Rattle.lines.specs.declared.types.Stage.TheVariants as stage
 use Rattle.faults.specs.declared.types.LineFault.TheVariants as in_line
 use Rattle.lines.specs.Faults.{stage_after}
 use Rattle.faults.specs.declared.types.RigFault.{RigFault}
@@ -22,7 +21,6 @@ use Rattle.scenario.specs.declared.types.ReadError.TheVariants as error
 use Rattle.scenario.specs.declared.texts.Entries.{Entries}
 use Rattle.scenario.specs.declared.types.Scenario.{Scenario}
 use Rattle.scenario.specs.Texts.{RigRead, LinesRead, start}
-use Rattle.scenario.specs.Holdings.{in_order}
 use Rattle.scenario.specs.Laws.{scenario_text, ending}
 
 -- a scenario by its lists

@@ -10,13 +10,12 @@ ghost use Rattle.scenario.specs.Steps.{Sized, held, put, nothing, to_come, NextS
 
 use crate::types::{ReadError, Reading, Scenario};
 use entries::{Entry, RigLine};
+pub use faults::LONGEST;
 use faults::{LineFault, Place, RigFault};
 use fields::Reader;
 use lines::{LineEntry, Stage, next_entry};
 use parts::Size;
 use std::alloc::{AllocError, Global};
-
-pub use faults::LONGEST;
 
 // Whether a rig may have so many heads and cells.
 fn allowed(rig: RigLine) -> bool

@@ -1,5 +1,5 @@
 -- A scenario that was read: its parts, its lines, and that its run can begin.
-use Rattle.std.proofs.Common.{◌≡◌, ℕ, ◌<◌, ◌≤◌, IsTrue, rules, All, List, [], ◌∷◌, ◌++◌, map, length, Some, None, Option, Result, refl, sym, ap, ◌∙◌, subst, arith}
+use Rattle.std.proofs.Common.{◌≡◌, ℕ, ◌<◌, All, List, [], ◌∷◌, ◌++◌, map, length, Some, None, Option, Result, refl, sym, ap, ◌∙◌, subst, arith}
 use Rattle.std.specs.Option.{ForSome}
 use Rattle.std.proofs.lemmas.List.Elements.{All-nil, All-cons}
 use Rattle.entries.specs.declared.types.RigLine.{RigLine}
