@@ -1,8 +1,9 @@
 -- What a line says: each entry has one text, but that a rig line may leave a plain policy out.
-use Rattle.std.specs.Prelude.{◌≡◌, ℕ, ℤ, ◌≤◌, ◌⊎◌, List, [], ◌∷◌, Result, Ok, Err, codes, decimal}
-use Rattle.std.specs.Int.Signed.{mag}
+use Rattle.std.specs.Prelude.{◌≡◌, ℕ, ℤ, ◌^◌, ◌<◌, ◌⊎◌, List, [], ◌∷◌, Result, Ok, Err, codes, decimal, FitsSigned}
+use Rattle.std.specs.Int.{w32}
 use Rattle.std.specs.Fmt.{signed_decimal}
 use Rattle.std.specs.List.{join_with_byte}
+use Rattle.faults.specs.declared.texts.TheConstants.{TAB}
 use Rattle.parts.specs.declared.calls.Call.{Call}
 use Rattle.parts.specs.declared.calls.Call.TheVariants as call
 use Rattle.entries.specs.declared.types.BoardName.{BoardName}
@@ -86,12 +87,12 @@ ShortValues (entry.Rig r) fields = (r.policy ≡ policy.Plain) × (fields ≡ de
 ShortValues (entry.Set s) fields = ⊥
 ShortValues (entry.Call k) fields = ⊥
 
--- Numbers lie in 32 bits and amounts in 32 signed bits, where `mag` is n both of n and of -(n + 1).
+-- Numbers have 32 bits, and amounts 32 signed bits.
 
 abbrev pub CallFits : Call ℕ ℤ → Type 0
 CallFits call.Open = Unit {0}
-CallFits (call.Read c) = c ≤ 4294967295
-CallFits (call.Write c z) = (c ≤ 4294967295) × (mag z ≤ 2147483647)
+CallFits (call.Read c) = c < 2 ^ 32
+CallFits (call.Write c z) = (c < 2 ^ 32) × FitsSigned w32 z
 CallFits call.Close = Unit {0}
 CallFits call.Push = Unit {0}
 CallFits call.Jolt = Unit {0}
@@ -99,13 +100,13 @@ CallFits call.Again = Unit {0}
 CallFits call.Drop = Unit {0}
 
 abbrev pub Fits : Entry → Type 0
-Fits (entry.Rig r) = (r.heads ≤ 4294967295) × (r.cells ≤ 4294967295)
-Fits (entry.Set s) = (s.cell ≤ 4294967295) × (mag s.amount ≤ 2147483647)
-Fits (entry.Call k) = (k.head ≤ 4294967295) × CallFits k.call
+Fits (entry.Rig r) = (r.heads < 2 ^ 32) × (r.cells < 2 ^ 32)
+Fits (entry.Set s) = (s.cell < 2 ^ 32) × FitsSigned w32 s.amount
+Fits (entry.Call k) = (k.head < 2 ^ 32) × CallFits k.call
 
--- the text of a line: its word and values, joined by tabs (byte 9)
+-- the text of a line: its word and values, joined by tabs
 abbrev pub joined : Word → List (List ℕ) → List ℕ
-joined w fields = join_with_byte 9 (word_text w ∷ fields)
+joined w fields = join_with_byte TAB (word_text w ∷ fields)
 
 abbrev pub line_text : Entry → List ℕ
 line_text e = joined (word_of e) (values e)

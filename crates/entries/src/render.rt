@@ -30,7 +30,7 @@ impl fmt::Display for PolicyName {
 }
 
 impl Letter {
-    // The letter as text.
+    /// The letter as text (docs/RULES.md, "The scenario").
     pub fn as_str(self) -> &'static str
         ensures { result.now ≡ letter_text self }
     {

@@ -3,6 +3,8 @@
 
 mod nesting;
 mod reports;
+mod texts;
 mod types;
 
+pub use texts::{LONGEST, NEWLINE, TAB};
 pub use types::{FieldFault, Layer, LineFault, Place, Report, RigFault};

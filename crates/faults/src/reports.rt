@@ -1,7 +1,8 @@
 // Faults as they are printed.
 ghost use Rattle.std.specs.Prelude.{◌≡◌, Some};
-ghost use Rattle.faults.specs.Reports.{field_report, line_report, report_of, layer_text, report_text};
+ghost use Rattle.faults.specs.Reports.{place_text, field_report, line_report, report_of, layer_text, report_text};
 
+use crate::texts::LONGEST;
 use crate::types::{FieldFault, Layer, LineFault, Place, Report, RigFault};
 use std::fmt;
 
@@ -34,7 +35,7 @@ impl From<LineFault> for Report {
                 25,
                 Place {
                     line: 0,
-                    byte: 65_536,
+                    byte: LONGEST,
                 },
             ),
         };
@@ -60,6 +61,15 @@ impl From<RigFault> for Report {
             place,
             layer: Layer::Rig,
         }
+    }
+}
+
+impl fmt::Display for Place {
+    ghost output = { λ p. Some (place_text p) };
+
+    fn fmt<W: fmt::Write>(&self, f: &mut fmt::Formatter<W>) -> fmt::Result {
+        let Place { line, byte } = *self;
+        write!(f, "line {line}, byte {byte}")
     }
 }
 

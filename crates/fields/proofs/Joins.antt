@@ -5,6 +5,7 @@ use Rattle.std.specs.List.{AllByRecursion, join_with_byte}
 use Rattle.std.specs.Option.{unwrap_or}
 use Rattle.std.proofs.lemmas.List.{nil_from_length, drop_all, drop-drop, drop-append-le, take_at, take-append-le}
 use Rattle.std.proofs.lemmas.Bool.{cond-true, cond-false, cond_both, cases_Bool, cases_lt, eqb-true, eqb-false, eq-eqb, ne_eqb}
+use Rattle.faults.specs.declared.texts.TheConstants.{NEWLINE, TAB}
 use Rattle.faults.specs.declared.types.Place.{Place}
 use Rattle.fields.specs.Parts.{split, onto, lines_of, after_line, lines_from, lines_at, after_field, fields_from, fields_at, bytes_of, Piece, ended, Without, InRow, LiesIn, Lined, FieldsOfLine, text_start, CutAt}
 
@@ -64,35 +65,35 @@ split-joined b (p ∷ q ∷ ps) h (a, r) = split-next b p (join_with_byte b (q �
 -- lines
 
 -- lines without a newline, put together and parted again, are as they were
-lines_next : (l rest : List ℕ) → Without 10 l → lines_of (l ++ (10 ∷ rest)) ≡ l ∷ lines_of rest
+lines_next : (l rest : List ℕ) → Without NEWLINE l → lines_of (l ++ (NEWLINE ∷ rest)) ≡ l ∷ lines_of rest
 lines_next [] rest a = refl
-lines_next (x ∷ l) rest (h, a) = cond-false (eqb x 10) ([] ∷ lines_of (l ++ (10 ∷ rest))) (onto x (lines_of (l ++ (10 ∷ rest)))) (ne_eqb x 10 h) ∙ ap (onto x) (lines_next l rest a)
+lines_next (x ∷ l) rest (h, a) = cond-false (eqb x NEWLINE) ([] ∷ lines_of (l ++ (NEWLINE ∷ rest))) (onto x (lines_of (l ++ (NEWLINE ∷ rest)))) (ne_eqb x NEWLINE h) ∙ ap (onto x) (lines_next l rest a)
 
-pub lines-ended : (lines : List (List ℕ)) → AllByRecursion (Without 10) lines → lines_of (ended 10 lines) ≡ lines
+pub lines-ended : (lines : List (List ℕ)) → AllByRecursion (Without NEWLINE) lines → lines_of (ended NEWLINE lines) ≡ lines
 lines-ended [] a = refl
-lines-ended (l ∷ ls) (a, r) = lines_next l (ended 10 ls) a ∙ ap (λ x. l ∷ x) (lines-ended ls r)
+lines-ended (l ∷ ls) (a, r) = lines_next l (ended NEWLINE ls) a ∙ ap (λ x. l ∷ x) (lines-ended ls r)
 
-line-last : (l : List ℕ) → 0 < length l → Without 10 l → lines_of l ≡ l ∷ []
+line-last : (l : List ℕ) → 0 < length l → Without NEWLINE l → lines_of l ≡ l ∷ []
 line-last [] some a = absurd (omega arith)
-line-last (x ∷ []) some (h, a) = cond-false (eqb x 10) ([] ∷ []) ((x ∷ []) ∷ []) (ne_eqb x 10 h)
-line-last (x ∷ y ∷ ys) some (h, a) = cond-false (eqb x 10) ([] ∷ lines_of (y ∷ ys)) (onto x (lines_of (y ∷ ys))) (ne_eqb x 10 h) ∙ ap (onto x) (line-last (y ∷ ys) (omega arith) a)
+line-last (x ∷ []) some (h, a) = cond-false (eqb x NEWLINE) ([] ∷ []) ((x ∷ []) ∷ []) (ne_eqb x NEWLINE h)
+line-last (x ∷ y ∷ ys) some (h, a) = cond-false (eqb x NEWLINE) ([] ∷ lines_of (y ∷ ys)) (onto x (lines_of (y ∷ ys))) (ne_eqb x NEWLINE h) ∙ ap (onto x) (line-last (y ∷ ys) (omega arith) a)
 
-pub lines-rejoined : (lines : List (List ℕ)) → 0 < length lines → AllByRecursion (λ (l : List ℕ). Without 10 l × (0 < length l)) lines → lines_of (join_with_byte 10 lines) ≡ lines
+pub lines-rejoined : (lines : List (List ℕ)) → 0 < length lines → AllByRecursion (λ (l : List ℕ). Without NEWLINE l × (0 < length l)) lines → lines_of (join_with_byte NEWLINE lines) ≡ lines
 lines-rejoined [] some a = absurd (omega arith)
 lines-rejoined (l ∷ []) some ((a, h), r) = line-last l h a
-lines-rejoined (l ∷ m ∷ ls) some ((a, h), r) = lines_next l (join_with_byte 10 (m ∷ ls)) a ∙ ap (λ x. l ∷ x) (lines-rejoined (m ∷ ls) (omega arith) r)
+lines-rejoined (l ∷ m ∷ ls) some ((a, h), r) = lines_next l (join_with_byte NEWLINE (m ∷ ls)) a ∙ ap (λ x. l ∷ x) (lines-rejoined (m ∷ ls) (omega arith) r)
 
 -- the lines of a text, each with a newline, are the text with its last newline
 abbrev Ends : List (List ℕ) → List ℕ → Type 0
-Ends ls text = (ended 10 ls ≡ text) ⊎ (ended 10 ls ≡ text ++ (10 ∷ []))
+Ends ls text = (ended NEWLINE ls ≡ text) ⊎ (ended NEWLINE ls ≡ text ++ (NEWLINE ∷ []))
 
-ends_next : (ls : List (List ℕ)) (xs : List ℕ) (x : ℕ) → x ≡ 10 → Ends ls xs → Ends ([] ∷ ls) (x ∷ xs)
-ends_next ls xs x e (inl h) = inl (ap (λ y. y ∷ ended 10 ls) (sym e) ∙ ap (λ l. x ∷ l) h)
-ends_next ls xs x e (inr h) = inr (ap (λ y. y ∷ ended 10 ls) (sym e) ∙ ap (λ l. x ∷ l) h)
+ends_next : (ls : List (List ℕ)) (xs : List ℕ) (x : ℕ) → x ≡ NEWLINE → Ends ls xs → Ends ([] ∷ ls) (x ∷ xs)
+ends_next ls xs x e (inl h) = inl (ap (λ y. y ∷ ended NEWLINE ls) (sym e) ∙ ap (λ l. x ∷ l) h)
+ends_next ls xs x e (inr h) = inr (ap (λ y. y ∷ ended NEWLINE ls) (sym e) ∙ ap (λ l. x ∷ l) h)
 
 ends-onto : (ls : List (List ℕ)) (xs : List ℕ) (x : ℕ) → Ends ls xs → Ends (onto x ls) (x ∷ xs)
-ends-onto [] xs x (inl h) = inr (ap (λ l. x ∷ (l ++ (10 ∷ []))) h)
-ends-onto [] xs x (inr h) = absurd (omega (arith, ap length h, length-append xs (10 ∷ [])))
+ends-onto [] xs x (inl h) = inr (ap (λ l. x ∷ (l ++ (NEWLINE ∷ []))) h)
+ends-onto [] xs x (inr h) = absurd (omega (arith, ap length h, length-append xs (NEWLINE ∷ [])))
 ends-onto (l ∷ ls) xs x (inl h) = inl (ap (λ l. x ∷ l) h)
 ends-onto (l ∷ ls) xs x (inr h) = inr (ap (λ l. x ∷ l) h)
 
@@ -100,12 +101,12 @@ pub lines-joined : (text : List ℕ) → Ends (lines_of text) text
 lines-joined [] = inl refl
 lines-joined (x ∷ xs) =
     let P : List (List ℕ) → Type 0 = λ ls. Ends ls (x ∷ xs) in
-    cond_both (eqb x 10) ([] ∷ lines_of xs) (onto x (lines_of xs)) P (λ e. ends_next (lines_of xs) xs x (eqb-true x 10 e) (lines-joined xs)) (λ e. ends-onto (lines_of xs) xs x (lines-joined xs))
+    cond_both (eqb x NEWLINE) ([] ∷ lines_of xs) (onto x (lines_of xs)) P (λ e. ends_next (lines_of xs) xs x (eqb-true x NEWLINE e) (lines-joined xs)) (λ e. ends-onto (lines_of xs) xs x (lines-joined xs))
 
-pub lines-without : (text : List ℕ) → AllByRecursion (Without 10) (lines_of text)
+pub lines-without : (text : List ℕ) → AllByRecursion (Without NEWLINE) (lines_of text)
 lines-without [] = tt
 lines-without (x ∷ xs) =
-    cond_both (eqb x 10) ([] ∷ lines_of xs) (onto x (lines_of xs)) (AllByRecursion (Without 10)) (λ _. (tt, lines-without xs)) (λ e. onto-without 10 x (lines_of xs) (eqb-false x 10 e) (lines-without xs))
+    cond_both (eqb x NEWLINE) ([] ∷ lines_of xs) (onto x (lines_of xs)) (AllByRecursion (Without NEWLINE)) (λ _. (tt, lines-without xs)) (λ e. onto-without NEWLINE x (lines_of xs) (eqb-false x NEWLINE e) (lines-without xs))
 
 -- places
 
@@ -179,11 +180,11 @@ lined text =
     let P : List (List ℕ) → Type 0 = λ l. Ends l text in
     record {
       joined = subst P (sym (bytes-of-lines text_start (lines_of text))) (lines-joined text);
-      apart = lines-all (Without 10) text_start (lines_of text) (lines-without text);
+      apart = lines-all (Without NEWLINE) text_start (lines_of text) (lines-without text);
       numbered = InRow-lines_from text_start (lines_of text);
       placed = lines-lie 0 text text_start (lines_of text) (⊎_elim
-          (λ (e : ended 10 (lines_of text) ≡ text). lie 10 0 text 0 (lines_of text) [] (omega arith) (omega arith) (append-nil (drop 0 text) ∙ all text ∙ sym e))
-          (λ (e : ended 10 (lines_of text) ≡ text ++ (10 ∷ [])). lie 10 0 text 0 (lines_of text) (10 ∷ []) (omega arith) (omega arith) (ap (λ l. l ++ (10 ∷ [])) (all text) ∙ sym e))
+          (λ (e : ended NEWLINE (lines_of text) ≡ text). lie NEWLINE 0 text 0 (lines_of text) [] (omega arith) (omega arith) (append-nil (drop 0 text) ∙ all text ∙ sym e))
+          (λ (e : ended NEWLINE (lines_of text) ≡ text ++ (NEWLINE ∷ [])). lie NEWLINE 0 text 0 (lines_of text) (NEWLINE ∷ []) (omega arith) (omega arith) (ap (λ l. l ++ (NEWLINE ∷ [])) (all text) ∙ sym e))
           (lines-joined text));
     }
   where
@@ -194,12 +195,12 @@ lined text =
 pub fielded_at : (l : Piece) → FieldsOfLine l (fields_at l)
 fielded_at (p, bytes) =
     record {
-      joined = ap (join_with_byte 9) (bytes-of-fields p (split 9 bytes)) ∙ join-split 9 bytes;
-      apart = fields-all (Without 9) p (split 9 bytes) (split-without 9 bytes);
-      same_line = fields-same-line p.line p (split 9 bytes) refl;
-      placed = fields_lie p.byte bytes p (split 9 bytes)
-          (lie 9 p.byte bytes p.byte (split 9 bytes) (9 ∷ []) (omega arith) (omega arith)
-          (ap (λ (l : List ℕ). l ++ (9 ∷ [])) (all p.byte bytes ∙ sym (join-split 9 bytes)) ∙ ended-joined 9 (split 9 bytes) (split-some 9 bytes)));
+      joined = ap (join_with_byte TAB) (bytes-of-fields p (split TAB bytes)) ∙ join-split TAB bytes;
+      apart = fields-all (Without TAB) p (split TAB bytes) (split-without TAB bytes);
+      same_line = fields-same-line p.line p (split TAB bytes) refl;
+      placed = fields_lie p.byte bytes p (split TAB bytes)
+          (lie TAB p.byte bytes p.byte (split TAB bytes) (TAB ∷ []) (omega arith) (omega arith)
+          (ap (λ (l : List ℕ). l ++ (TAB ∷ [])) (all p.byte bytes ∙ sym (join-split TAB bytes)) ∙ ended-joined TAB (split TAB bytes) (split-some TAB bytes)));
     }
   where
     all : (a : ℕ) (xs : List ℕ) → drop (a - a) xs ≡ xs
@@ -208,29 +209,29 @@ fielded_at (p, bytes) =
 
 -- the first of what is left
 
-pub last-field : (p : Place) (bs f : List ℕ) → (bs ≡ f) × Without 9 f → fields_at (p, bs) ≡ (p, f) ∷ []
-last-field p bs f (e, w) = ap (λ (l : List ℕ). fields_from p (split 9 l)) e ∙ ap (fields_from p) (split-last 9 f w)
+pub last-field : (p : Place) (bs f : List ℕ) → (bs ≡ f) × Without TAB f → fields_at (p, bs) ≡ (p, f) ∷ []
+last-field p bs f (e, w) = ap (λ (l : List ℕ). fields_from p (split TAB l)) e ∙ ap (fields_from p) (split-last TAB f w)
 
-pub next-field : (p : Place) (bs f rest : List ℕ) → (bs ≡ f ++ (9 ∷ rest)) × Without 9 f → fields_at (p, bs) ≡ (p, f) ∷ fields_at (record { line = p.line; byte = p.byte + length f + 1 }, rest)
+pub next-field : (p : Place) (bs f rest : List ℕ) → (bs ≡ f ++ (TAB ∷ rest)) × Without TAB f → fields_at (p, bs) ≡ (p, f) ∷ fields_at (record { line = p.line; byte = p.byte + length f + 1 }, rest)
 next-field p bs f rest (e, w) =
     let k : suc (p.byte + length f) ≡ p.byte + length f + 1 = omega arith in
-    ap (λ (l : List ℕ). fields_from p (split 9 l)) e ∙ ap (fields_from p) (split-next 9 f rest w)
-    ∙ ap (λ n. (p, f) ∷ fields_from (record { line = p.line; byte = n }) (split 9 rest)) k
+    ap (λ (l : List ℕ). fields_from p (split TAB l)) e ∙ ap (fields_from p) (split-next TAB f rest w)
+    ∙ ap (λ n. (p, f) ∷ fields_from (record { line = p.line; byte = n }) (split TAB rest)) k
 
-next-line : (p : Place) (bs f rest : List ℕ) → (bs ≡ f ++ (10 ∷ rest)) × Without 10 f
+next-line : (p : Place) (bs f rest : List ℕ) → (bs ≡ f ++ (NEWLINE ∷ rest)) × Without NEWLINE f
     → lines_at p bs ≡ (p, f) ∷ lines_at (record { line = p.line + 1; byte = p.byte + (length bs - length rest) }) rest
 next-line p bs f rest (e, w) =
     let l : suc p.line ≡ p.line + 1 = omega arith in
-    let k : suc (p.byte + length f) ≡ p.byte + (length bs - length rest) = omega (arith, ap length e, length-append f (10 ∷ rest)) in
+    let k : suc (p.byte + length f) ≡ p.byte + (length bs - length rest) = omega (arith, ap length e, length-append f (NEWLINE ∷ rest)) in
     ap (λ (t : List ℕ). lines_from p (lines_of t)) e ∙ ap (lines_from p) (lines_next f rest w)
     ∙ ap (λ n. (p, f) ∷ lines_from (record { line = n; byte = suc (p.byte + length f) }) (lines_of rest)) l
     ∙ ap (λ n. (p, f) ∷ lines_from (record { line = p.line + 1; byte = n }) (lines_of rest)) k
 
-last-line : (p : Place) (bs f : List ℕ) → 0 < length bs → (bs ≡ f) × Without 10 f → lines_at p bs ≡ (p, f) ∷ []
+last-line : (p : Place) (bs f : List ℕ) → 0 < length bs → (bs ≡ f) × Without NEWLINE f → lines_at p bs ≡ (p, f) ∷ []
 last-line p bs f some (e, w) = ap (λ (t : List ℕ). lines_from p (lines_of t)) e ∙ ap (lines_from p) (line-last f (omega (arith, ap length e)) w)
 
 -- nothing is left after a last line that lacks its newline
-pub first-line : (p : Place) (bs f : List ℕ) (r : Option (Bor (List ℕ))) (rest none : Bor (List ℕ)) → 0 < length bs → CutAt 10 bs f r → rest ≡ unwrap_or r none → none.now ≡ []
+pub first-line : (p : Place) (bs f : List ℕ) (r : Option (Bor (List ℕ))) (rest none : Bor (List ℕ)) → 0 < length bs → CutAt NEWLINE bs f r → rest ≡ unwrap_or r none → none.now ≡ []
     → lines_at p bs ≡ (p, f) ∷ lines_at (record { line = p.line + 1; byte = p.byte + (length bs - length rest.now) }) rest.now
 first-line p bs f (Some r) rest none some cut e d = rw e (next-line p bs f r.now cut)
 first-line p bs f None rest none some cut e d = rw (e, d) (last-line p bs f some cut)

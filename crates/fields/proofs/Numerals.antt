@@ -51,28 +51,28 @@ pub none-lead : (bs : List ℕ) → get_or bs 0 0 ≡ 48 → 2 ≤ length bs →
 none-lead bs h l n s = omega (arith, lead-of bs n s h)
 
 -- a numeral is its number's one text
-pub plain : (bs : List ℕ) (r : Option ℕ) → 0 < length bs → (get_or bs 0 0 ≡ 48 → length bs ≤ 1) → SomeIff r ((all_ascii_digits bs ≡ true) × (digits_value 10 bs ≤ 4294967295)) (digits_value 10 bs) → Reads (Number bs) r
+pub plain : (bs : List ℕ) (r : Option ℕ) → 0 < length bs → (get_or bs 0 0 ≡ 48 → length bs ≤ 1) → SomeIff r ((all_ascii_digits bs ≡ true) × (digits_value 10 bs < 2 ^ 32)) (digits_value 10 bs) → Reads (Number bs) r
 plain bs (Some n) some lead ((d, small), e) = rw e (sym (decimal-digits_value own bs d some (λ z. omega (arith, lead z)) (omega arith)), small)
 plain bs None some lead none = λ n s. let d = digits_of bs n s in none (d.0, omega (arith, d.1, s.1))
 
 -- the answers of `amount_of`, by how the field begins
 
-neg_of : (bs ds : List ℕ) (z : ℤ) → bs ≡ 45 ∷ ds → Amount bs z → (m : ℕ) × (z ≡ negsuc m) × (ds ≡ decimal (suc m)) × (m ≤ 2147483647)
+neg_of : (bs ds : List ℕ) (z : ℤ) → bs ≡ 45 ∷ ds → Amount bs z → (m : ℕ) × (z ≡ negsuc m) × (ds ≡ decimal (suc m)) × (m < 2 ^ 31)
 neg_of bs ds (pos n) e (s, l) = absurd (omega (arith, first-digit bs n (s, omega arith), ap (λ l. get_or l 0 0) e))
-neg_of bs ds (negsuc n) e (s, l) = (n, refl, cc, l)
+neg_of bs ds (negsuc n) e (s, l) = (n, refl, cc, omega (arith, l))
 
-pos_of : (bs : List ℕ) (z : ℤ) → (get_or bs 0 0 ≡ 45 → ⊥) → Amount bs z → (m : ℕ) × (z ≡ pos m) × (bs ≡ decimal m) × (m ≤ 2147483647)
-pos_of bs (pos n) e (s, l) = (n, refl, s, l)
+pos_of : (bs : List ℕ) (z : ℤ) → (get_or bs 0 0 ≡ 45 → ⊥) → Amount bs z → (m : ℕ) × (z ≡ pos m) × (bs ≡ decimal m) × (m < 2 ^ 31)
+pos_of bs (pos n) e (s, l) = (n, refl, s, omega (arith, l))
 pos_of bs (negsuc n) e (s, l) = absurd (e (ap (λ l. get_or l 0 0) s))
 
-same : (m n : ℕ) (ds : List ℕ) → ds ≡ decimal m → ds ≡ decimal n → m ≤ 4294967295 → n ≤ 4294967295 → m ≡ n
+same : (m n : ℕ) (ds : List ℕ) → ds ≡ decimal m → ds ≡ decimal n → m < 2 ^ 32 → n < 2 ^ 32 → m ≡ n
 same m n ds p q h k = decimal_injective m n (omega arith) (omega arith) (sym p ∙ q)
 
 module _ (bs ds : List ℕ) (e : bs ≡ 45 ∷ ds) where
   pub minus-none : Reads (Number ds) None → Reads (Amount bs) None
   minus-none h z s = let p = neg_of bs ds z e s in h (suc p.0) (p.2, omega arith)
 
-  pub minus-some : (n : ℕ) (r : Option ℤ) → Number ds n → SomeIff r ((n ≢ 0) × (n ≤ 2147483648)) (negsuc (n - 1)) → Reads (Amount bs) r
+  pub minus-some : (n : ℕ) (r : Option ℤ) → Number ds n → SomeIff r ((n ≢ 0) × (n ≤ 2 ^ 31)) (negsuc (n - 1)) → Reads (Amount bs) r
   minus-some n (Some x) (s, l) ((some, fits), is) = let k : n ≡ suc (n - 1) = omega arith in rw is (e ∙ ap (λ l. 45 ∷ l) (s ∙ ap decimal k), omega arith)
   minus-some n None (s, l) none = λ z a. let p = neg_of bs ds z e a in let k : n ≡ suc p.0 = same n (suc p.0) ds s p.2 l (omega arith) in none (omega arith, omega arith)
 

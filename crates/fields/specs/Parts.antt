@@ -2,11 +2,10 @@
 use Rattle.std.specs.Prelude.{◌≡◌, ℕ, suc, ◌+◌, ◌-◌, cond, ◌⊎◌, List, [], ◌∷◌, ◌++◌, map, length, take, drop, Some, None, Option, ◌==◌, ◌≢◌}
 use Rattle.std.specs.Borrow.{Bor}
 use Rattle.std.specs.List.{AllByRecursion, join_with_byte}
+use Rattle.faults.specs.declared.texts.TheConstants.{NEWLINE, TAB}
 use Rattle.faults.specs.declared.types.Place.{Place}
 use Rattle.fields.specs.declared.parts.Part.{Part}
 use Rattle.fields.specs.declared.parts.Line.{Line}
-use Rattle.fields.specs.declared.parts.Fields.{Fields}
-use Rattle.fields.specs.declared.parts.Reader.{Reader}
 
 -- x in front of the first of the parts
 abbrev pub onto : ℕ → List (List ℕ) → List (List ℕ)
@@ -18,10 +17,10 @@ abbrev pub split : ℕ → List ℕ → List (List ℕ)
 split b [] = [] ∷ []
 split b (x ∷ xs) = cond (x == b) ([] ∷ split b xs) (onto x (split b xs))
 
--- the lines of a text: each ends at a newline (byte 10), which the last may lack
+-- the lines of a text: each ends at a newline, which the last may lack
 abbrev pub lines_of : List ℕ → List (List ℕ)
 lines_of [] = []
-lines_of (x ∷ xs) = cond (x == 10) ([] ∷ lines_of xs) (onto x (lines_of xs))
+lines_of (x ∷ xs) = cond (x == NEWLINE) ([] ∷ lines_of xs) (onto x (lines_of xs))
 
 -- a part with the place where it begins
 abbrev pub Piece : Type 0
@@ -44,9 +43,9 @@ abbrev pub fields_from : Place → List (List ℕ) → List Piece
 fields_from p [] = []
 fields_from p (f ∷ fs) = (p, f) ∷ fields_from (after_field p f) fs
 
--- the fields of a line: its parts between tabs (byte 9)
+-- the fields of a line: its parts between tabs
 abbrev pub fields_at : Piece → List Piece
-fields_at l = fields_from l.0 (split 9 l.1)
+fields_at l = fields_from l.0 (split TAB l.1)
 
 -- a line begins one byte after the end of the line before it, and its number is one more
 abbrev pub after_line : Place → List ℕ → Place
@@ -85,29 +84,22 @@ LiesIn a text p = take (length p.1) (drop (p.0.byte - a) text) ≡ p.1
 -- the lines joined again are the text, up to the one newline that may be missing at the end; none holds a newline;
 -- they are numbered from 1, and each lies at its place
 pub record Lined (text : List ℕ) (lines : List Piece) : Type 0 where
-  pub joined : (ended 10 (bytes_of lines) ≡ text) ⊎ (ended 10 (bytes_of lines) ≡ text ++ (10 ∷ []))
-  pub apart : AllByRecursion (λ (l : Piece). Without 10 l.1) lines
+  pub joined : (ended NEWLINE (bytes_of lines) ≡ text) ⊎ (ended NEWLINE (bytes_of lines) ≡ text ++ (NEWLINE ∷ []))
+  pub apart : AllByRecursion (λ (l : Piece). Without NEWLINE l.1) lines
   pub numbered : InRow 1 lines
   pub placed : AllByRecursion (LiesIn 0 text) lines
 
 -- the fields joined by tabs are the line; none holds a tab; each lies on the line, at its place
 pub record FieldsOfLine (line : Piece) (fields : List Piece) : Type 0 where
-  pub joined : join_with_byte 9 (bytes_of fields) ≡ line.1
-  pub apart : AllByRecursion (λ (f : Piece). Without 9 f.1) fields
+  pub joined : join_with_byte TAB (bytes_of fields) ≡ line.1
+  pub apart : AllByRecursion (λ (f : Piece). Without TAB f.1) fields
   pub same_line : AllByRecursion (λ (f : Piece). f.0.line ≡ line.0.line) fields
   pub placed : AllByRecursion (LiesIn line.0.byte line.1) fields
 
--- What a reader has still to hand out.
-
-abbrev pub lines_left : Reader → List Piece
-lines_left r = lines_at r.rest.place r.rest.bytes.now
-
+-- the fields of what is left of a line, which may be nothing
 abbrev pub fields_of : Option Line → List Piece
 fields_of None = []
 fields_of (Some line) = fields_at (line_piece line)
-
-abbrev pub fields_left : Fields → List Piece
-fields_left f = fields_of f.rest
 
 -- The words below are for the steps of handing out.
 

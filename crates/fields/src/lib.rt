@@ -6,4 +6,5 @@ mod parts;
 mod reader;
 mod types;
 
+pub use faults::{NEWLINE, TAB};
 pub use parts::{Fields, Line, Part, Reader};

@@ -1,5 +1,5 @@
 // The numbers and amounts that fields write.
-ghost use Rattle.std.specs.Prelude.{◌≢◌, ◌-◌, ◌≤◌, negsuc, SomeIff, IsTrue};
+ghost use Rattle.std.specs.Prelude.{◌≢◌, ◌-◌, ◌^◌, ◌<◌, ◌≤◌, negsuc, SomeIff, IsTrue};
 ghost use Rattle.std.specs.Str.{all_ascii_digits};
 ghost use Rattle.std.specs.Str.Parse.{digits_value};
 ghost use Rattle.fields.specs.Numbers.{Number, Amount, Reads, FieldRead, Begins};
@@ -9,12 +9,15 @@ use crate::parts::Part;
 use crate::types::Field;
 use faults::FieldFault;
 
+// The byte that an amount below 0 begins with.
+const MINUS: u8 = b'-';
+
 // How a field begins.
 fn field_of(bytes: &[u8]) -> Field
     ensures { Begins result bytes.now }
 {
     match bytes {
-        [b'-', digits @ ..] => Field::Minus(digits),
+        [MINUS, digits @ ..] => Field::Minus(digits),
         _ => Field::Plain(bytes),
     }
 }
@@ -23,7 +26,7 @@ fn field_of(bytes: &[u8]) -> Field
 // A loop of its own: `parse`, which wants text, costs over twice as much for the one or two digits of most numbers.
 #[tactic(auto, using(crate::proofs::Numerals::grown_by))]
 fn digits_value(bytes: &[u8]) -> Option<u32>
-    ensures { SomeIff result (IsTrue (all_ascii_digits bytes.now) × (digits_value 10 bytes.now ≤ 4294967295))
+    ensures { SomeIff result (IsTrue (all_ascii_digits bytes.now) × (digits_value 10 bytes.now < 2 ^ 32))
         (digits_value 10 bytes.now) }
 {
     let mut value: u32 = 0;
@@ -50,7 +53,7 @@ fn number_of(bytes: &[u8]) -> Option<u32>
 
 // -n, where that is below 0 and an amount.
 fn negated(n: u32) -> Option<i32>
-    ensures { SomeIff result ((n ≢ 0) × (n ≤ 2147483648)) (negsuc (n - 1)) }
+    ensures { SomeIff result ((n ≢ 0) × (n ≤ 2 ^ 31)) (negsuc (n - 1)) }
 {
     match n {
         0 => None,
@@ -69,7 +72,7 @@ fn amount_of(bytes: &[u8]) -> Option<i32>
 }
 
 impl Part<'_> {
-    // The number that the part writes.
+    /// The number that the part writes (docs/RULES.md, "The scenario"), or a fault at its place.
     // Two names in place of one generic call: they tell a reader which kind of field is meant.
     pub fn number(self) -> Result<u32, FieldFault>
         ensures { FieldRead (Number self.entry.bytes.now) (BadNumber self.entry.place) result }
@@ -77,7 +80,7 @@ impl Part<'_> {
         number_of(self.bytes).ok_or(FieldFault::BadNumber(self.place))
     }
 
-    // The amount that the part writes.
+    /// The amount that the part writes, or a fault at its place.
     pub fn amount(self) -> Result<i32, FieldFault>
         ensures { FieldRead (Amount self.entry.bytes.now) (BadNumber self.entry.place) result }
     {

@@ -1,10 +1,10 @@
 // Handing out the lines of a text and the fields of a line.
 ghost use Rattle.std.specs.Prelude.{◌≡◌, ◌+◌, ◌^◌, ◌<◌, ◌==◌, ◌∷◌, length, position};
 ghost use Rattle.std.specs.Iterator.{YieldsFirstBy, item_count};
-ghost use Rattle.fields.specs.Parts.{CutAt, piece, line_piece, lines_at, lines_left, fields_at, fields_left, fields_of, text_start, Lined, FieldsOfLine};
+ghost use Rattle.fields.specs.Parts.{CutAt, piece, line_piece, lines_at, fields_at, fields_of, text_start, Lined, FieldsOfLine};
 
 use crate::parts::{Fields, Line, Part, Reader};
-use faults::Place;
+use faults::{NEWLINE, Place, TAB};
 
 // How many bytes come before the first byte b, if there is one.
 fn before(bytes: &[u8], b: u8) -> Option<usize>
@@ -33,7 +33,7 @@ fn first_line<'a>(text: Part<'a>) -> (Line<'a>, Part<'a>)
     ensures counted { result.1.place.line + length result.1.bytes.now < 2 ^ 64 }
 {
     let Part { place, bytes } = text;
-    let (first, rest) = cut(bytes, b'\n');
+    let (first, rest) = cut(bytes, NEWLINE);
     let rest = rest.unwrap_or(&[]);
     let next = Place {
         line: place.line + 1,
@@ -59,7 +59,7 @@ fn first_field<'a>(line: Line<'a>) -> (Part<'a>, Option<Line<'a>>)
     ensures { fields_at (line_piece line.entry) ≡ piece result.0 ∷ fields_of result.1 }
 {
     let Part { place, bytes } = line.part;
-    let (first, rest) = cut(bytes, b'\t');
+    let (first, rest) = cut(bytes, TAB);
     let field = Part {
         place,
         bytes: first,
@@ -85,16 +85,16 @@ fn first_field<'a>(line: Line<'a>) -> (Part<'a>, Option<Line<'a>>)
 
 // All fields of a line.
 fn all_fields<'a>(line: Line<'a>) -> Fields<'a>
-    ensures { fields_left result ≡ fields_at (line_piece line.entry) }
+    ensures { result ≡ fields_at (line_piece line.entry) }
 {
     Fields { rest: Some(line) }
 }
 
 impl<'a> Line<'a> {
-    // The fields of the line, of which there is at least one.
+    /// The fields of the line, of which there is at least one.
     pub fn fields(self) -> Fields<'a>
-        ensures fields { fields_left result ≡ fields_at (line_piece self.entry) }
-        ensures parted { FieldsOfLine (line_piece self.entry) (fields_left result) }
+        ensures fields { result ≡ fields_at (line_piece self.entry) }
+        ensures parted { FieldsOfLine (line_piece self.entry) result }
     {
         all_fields(self)
     }
@@ -104,9 +104,9 @@ impl<'a> Line<'a> {
 impl<'a> Iterator for Fields<'a> {
     type Item = Part<'a>;
 
-    ghost next_gives = { YieldsFirstBy piece fields_left };
+    ghost next_gives = { YieldsFirstBy piece (λ fields. fields) };
 
-    ghost remaining = { item_count fields_left };
+    ghost remaining = { item_count (λ fields. fields) };
 
     fn next(&mut self) -> Option<Part<'a>> {
         let (field, rest) = first_field(self.rest?);
@@ -117,7 +117,7 @@ impl<'a> Iterator for Fields<'a> {
 
 // All lines of a text.
 fn all_lines(text: &[u8]) -> Reader
-    ensures { lines_left result ≡ lines_at text_start text.now }
+    ensures { result ≡ lines_at text_start text.now }
 {
     let place = Place { line: 1, byte: 0 };
     Reader {
@@ -126,10 +126,10 @@ fn all_lines(text: &[u8]) -> Reader
 }
 
 impl<'a> Reader<'a> {
-    // A reader of the whole text, before its first line.
+    /// A reader of the whole text, before its first line.
     pub fn new(text: &'a [u8]) -> Reader<'a>
-        ensures lines { lines_left result ≡ lines_at text_start text.now }
-        ensures parted { Lined text.now (lines_left result) }
+        ensures lines { result ≡ lines_at text_start text.now }
+        ensures parted { Lined text.now result }
     {
         all_lines(text)
     }
@@ -139,9 +139,9 @@ impl<'a> Reader<'a> {
 impl<'a> Iterator for Reader<'a> {
     type Item = Line<'a>;
 
-    ghost next_gives = { YieldsFirstBy line_piece lines_left };
+    ghost next_gives = { YieldsFirstBy line_piece (λ lines. lines) };
 
-    ghost remaining = { item_count lines_left };
+    ghost remaining = { item_count (λ lines. lines) };
 
     fn next(&mut self) -> Option<Line<'a>> {
         if self.rest.bytes.is_empty() {

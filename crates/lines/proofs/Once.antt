@@ -1,6 +1,5 @@
 -- A line is read in one way.
-use Rattle.std.proofs.Common.{◌≡◌, ℕ, suc, ◌-◌, ◌≤◌, cond, eqb, List, [], ◌∷◌, length, get_or, ℤ, pos, negsuc, Some, Ok, Err, decimal, sym, refl, ap, ◌∙◌, subst, inl, inr, arith}
-use lib.Signed.{mag}
+use Rattle.std.proofs.Common.{◌≡◌, ℕ, suc, ◌-◌, ◌^◌, ◌<◌, FitsSigned, w32, cond, eqb, List, [], ◌∷◌, length, get_or, ℤ, pos, negsuc, Some, Ok, Err, decimal, sym, refl, ap, ◌∙◌, subst, inl, inr, arith}
 use Rattle.std.specs.List.{slice_get}
 use Rattle.std.specs.Fmt.{signed_decimal}
 use Rattle.std.specs.Str.Parse.{digits_value}
@@ -31,7 +30,7 @@ use Rattle.lines.proofs.Texts.{says-fields}
 
 -- the value that a field writes, got back from its bytes
 
-num-back : (n : ℕ) → n ≤ 4294967295 → digits_value 10 (decimal n) ≡ n
+num-back : (n : ℕ) → n < 2 ^ 32 → digits_value 10 (decimal n) ≡ n
 num-back n h = digits_value-decimal own n (omega arith)
 
 abbrev amount_back : List ℕ → ℤ
@@ -42,7 +41,7 @@ pos-back : (bs : List ℕ) (n : ℕ) → Number bs n → amount_back bs ≡ pos 
 pos-back [] n s = absurd (omega (arith, some_of [] n s))
 pos-back (b ∷ bs) n s = cond-false (eqb b 45) (negsuc (digits_value 10 bs - 1)) (pos (digits_value 10 (b ∷ bs))) (ne_eqb b 45 (λ e. omega (arith, first-digit (b ∷ bs) n s))) ∙ ap pos (digits_of (b ∷ bs) n s).1
 
-amount-back : (z : ℤ) → mag z ≤ 2147483647 → amount_back (signed_decimal z) ≡ z
+amount-back : (z : ℤ) → FitsSigned w32 z → amount_back (signed_decimal z) ≡ z
 amount-back (pos n) h = pos-back (decimal n) n (refl, omega arith)
 amount-back (negsuc n) h = let e : digits_value 10 (decimal (suc n)) - 1 ≡ n = omega (arith, num-back (suc n) (omega arith)) in ap negsuc e
 

@@ -1,12 +1,12 @@
 -- No field that is written holds a tab or a newline: its bytes are all at least a minus sign (45).
-use Rattle.std.proofs.Common.{◌≡◌, ℕ, suc, ◌<◌, ◌≤◌, Bool, true, ◌&&◌, leb, List, [], ◌∷◌, ◌++◌, ℤ, pos, negsuc, decimal, refl, arith}
-use lib.Signed.{mag}
+use Rattle.std.proofs.Common.{◌≡◌, ℕ, suc, ◌^◌, ◌<◌, ◌≤◌, FitsSigned, w32, Bool, true, ◌&&◌, leb, List, [], ◌∷◌, ◌++◌, ℤ, pos, negsuc, decimal, refl, arith}
 use Rattle.std.specs.List.{AllByRecursion, join_with_byte}
 use Rattle.std.specs.Fmt.{signed_decimal}
 use Rattle.std.specs.Str.{all_ascii_digits}
 use Rattle.std.specs.Char.{is_ascii_digit}
 use Rattle.std.proofs.lemmas.Fmt.{digits_decimal}
 use Rattle.std.proofs.lemmas.Bool.{and_parts, and_from, leb-true, le-leb}
+use Rattle.faults.specs.declared.texts.TheConstants.{NEWLINE, TAB}
 use Rattle.fields.specs.Parts.{Without}
 use Rattle.fields.proofs.Numerals.{own}
 use Rattle.entries.specs.declared.types.BoardName.{BoardName}
@@ -46,10 +46,10 @@ solid-digits (d ∷ ds) h =
     let l : 45 ≤ d = omega (arith, leb-true 48 d q.0) in
     and_from (leb 45 d) (solid ds) (le-leb 45 d l) (solid-digits ds p.1)
 
-solid-decimal : (n : ℕ) → n ≤ 4294967295 → Solid (decimal n)
+solid-decimal : (n : ℕ) → n < 2 ^ 32 → Solid (decimal n)
 solid-decimal n h = solid-digits (decimal n) (digits_decimal own n (omega arith))
 
-solid-signed : (z : ℤ) → mag z ≤ 2147483647 → Solid (signed_decimal z)
+solid-signed : (z : ℤ) → FitsSigned w32 z → Solid (signed_decimal z)
 solid-signed (pos n) h = solid-decimal n (omega arith)
 solid-signed (negsuc n) h = solid-decimal (suc n) (omega arith)
 
@@ -101,7 +101,7 @@ without-append : (b : ℕ) (xs ys : List ℕ) → Without b xs → Without b ys 
 without-append b [] ys h k = k
 without-append b (x ∷ xs) ys (h, r) k = (h, without-append b xs ys r k)
 
-pub joined-without : (fs : List (List ℕ)) → AllByRecursion Solid fs → Without 10 (join_with_byte 9 fs)
+pub joined-without : (fs : List (List ℕ)) → AllByRecursion Solid fs → Without NEWLINE (join_with_byte TAB fs)
 joined-without [] h = tt
-joined-without (f ∷ []) (h, r) = solid-without 10 f (omega arith) h
-joined-without (f ∷ g ∷ fs) (h, r) = without-append 10 f (9 ∷ join_with_byte 9 (g ∷ fs)) (solid-without 10 f (omega arith) h) (λ e. omega arith, joined-without (g ∷ fs) r)
+joined-without (f ∷ []) (h, r) = solid-without NEWLINE f (omega arith) h
+joined-without (f ∷ g ∷ fs) (h, r) = without-append NEWLINE f (TAB ∷ join_with_byte TAB (g ∷ fs)) (solid-without NEWLINE f (omega arith) h) (λ e. omega arith, joined-without (g ∷ fs) r)

@@ -4,6 +4,7 @@ use Rattle.std.specs.Option.{option_map}
 use Rattle.std.specs.List.{slice_get, AllByRecursion, join_with_byte}
 use Rattle.std.proofs.lemmas.Option.{same_Some, slice_get-map}
 use Rattle.faults.specs.declared.types.Place.{Place}
+use Rattle.faults.specs.declared.texts.TheConstants.{NEWLINE, TAB}
 use Rattle.fields.specs.Parts.{Piece, split, bytes_of, after_field, fields_from, fields_at, Without}
 use Rattle.fields.proofs.Joins.{split-joined, join-split, bytes-of-fields}
 use Rattle.parts.specs.declared.calls.Call.{Call}
@@ -45,25 +46,25 @@ word_some (word.Call l) = letter-some l
 
 joined-some : (w : Word) (fs : List (List ℕ)) → 0 < length (joined w fs)
 joined-some w [] = word_some w
-joined-some w (f ∷ fs) = omega (arith, word_some w, length-append (word_text w) (9 ∷ join_with_byte 9 (f ∷ fs)))
+joined-some w (f ∷ fs) = omega (arith, word_some w, length-append (word_text w) (TAB ∷ join_with_byte TAB (f ∷ fs)))
 
-pub says-line : (bytes : List ℕ) (e : Entry) → Says bytes e → Without 10 bytes × (0 < length bytes)
+pub says-line : (bytes : List ℕ) (e : Entry) → Says bytes e → Without NEWLINE bytes × (0 < length bytes)
 says-line bytes e (u, inl h) = rw h (joined-without (word_text (word_of e) ∷ values e) (solid-fields e (values e) u (inl refl)), joined-some (word_of e) (values e))
 says-line bytes e (u, inr (fs, s, h)) = rw h (joined-without (word_text (word_of e) ∷ fs) (solid-fields e fs u (inr s)), joined-some (word_of e) fs)
 
 -- a line that says something, split at its tabs
-pub says-fields : (bytes : List ℕ) (e : Entry) → Says bytes e → (fs : List (List ℕ)) × (split 9 bytes ≡ word_text (word_of e) ∷ fs) × Values e fs
+pub says-fields : (bytes : List ℕ) (e : Entry) → Says bytes e → (fs : List (List ℕ)) × (split TAB bytes ≡ word_text (word_of e) ∷ fs) × Values e fs
 says-fields bytes e (u, inl h) =
-    (values e, ap (split 9) h ∙ split-joined 9 (word_text (word_of e) ∷ values e) (omega arith) (all_without 9 (word_text (word_of e) ∷ values e) (omega arith) (solid-fields e (values e) u (inl refl))), inl refl)
+    (values e, ap (split TAB) h ∙ split-joined TAB (word_text (word_of e) ∷ values e) (omega arith) (all_without TAB (word_text (word_of e) ∷ values e) (omega arith) (solid-fields e (values e) u (inl refl))), inl refl)
 says-fields bytes e (u, inr (fs, s, h)) =
-    (fs, ap (split 9) h ∙ split-joined 9 (word_text (word_of e) ∷ fs) (omega arith) (all_without 9 (word_text (word_of e) ∷ fs) (omega arith) (solid-fields e fs u (inr s))), inr s)
+    (fs, ap (split TAB) h ∙ split-joined TAB (word_text (word_of e) ∷ fs) (omega arith) (all_without TAB (word_text (word_of e) ∷ fs) (omega arith) (solid-fields e fs u (inr s))), inr s)
 
 -- the fields of a line, and what they say
 pub fields-said : (at : Piece) (l : LineParts) (e : Entry) → MadeOf at l → word_of e ≡ line_word l → Valued e (line_parts l) → Says at.1 e
 fields-said (p, bytes) l e (f, fields, leads) word (u, h) =
     let fs : List (List ℕ) = bytes_of (line_parts l) in
-    let parts : split 9 bytes ≡ word_text (word_of e) ∷ fs = sym (bytes-of-fields p (split 9 bytes)) ∙ ap bytes_of fields ∙ ap (λ x. x ∷ fs) (leads ∙ ap word_text (sym word)) in
-    let whole : bytes ≡ joined (word_of e) fs = sym (join-split 9 bytes) ∙ ap (join_with_byte 9) parts in
+    let parts : split TAB bytes ≡ word_text (word_of e) ∷ fs = sym (bytes-of-fields p (split TAB bytes)) ∙ ap bytes_of fields ∙ ap (λ x. x ∷ fs) (leads ∙ ap word_text (sym word)) in
+    let whole : bytes ≡ joined (word_of e) fs = sym (join-split TAB bytes) ∙ ap (join_with_byte TAB) parts in
     (u, ⊎_elim (λ (k : fs ≡ values e). inl (whole ∙ ap (joined (word_of e)) k)) (λ (k : ShortValues e fs). inr (fs, k, whole)) h)
 
 -- Nothing is wrong with a line that says something.

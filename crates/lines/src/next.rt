@@ -1,6 +1,6 @@
 // Reading the next line.
 ghost use Rattle.std.specs.Prelude.{◌≡◌, Decides};
-ghost use Rattle.fields.specs.Parts.{line_piece, lines_left, fields_left};
+ghost use Rattle.fields.specs.Parts.{line_piece};
 ghost use Rattle.lines.specs.Faults.{Placed, stage_after, LineRead, NextRead, LineOnce};
 ghost use Rattle.lines.specs.Steps.{LedBy, LineShaped};
 
@@ -24,7 +24,7 @@ impl Stage {
         )
     }
 
-    // Where the line after this entry stands.
+    /// Where the line after this entry stands.
     pub fn after(self, said: Entry) -> Stage
         ensures { result ≡ stage_after self said }
     {
@@ -38,7 +38,7 @@ impl Stage {
 
 // The word that a line begins with, taken off its fields.
 fn leading_word(fields: &mut Fields) -> Option<Word>
-    ensures { LedBy (fields_left fields.old) (fields_left fields.new) result }
+    ensures { LedBy fields.old fields.new result }
 {
     Word::try_from(fields.next()?.bytes).ok()
 }
@@ -65,9 +65,10 @@ fn line_entry(stage: Stage, line: Line) -> Result<Entry, LineFault>
     Ok(said)
 }
 
-// What the next line says, after lines that led to this stage; None where no line is left.
+/// What the next line says, after lines that led to this stage; None where no line is left. A line is refused with the
+/// first of the faults of docs/RULES.md, "Faults", in the order given there.
 pub fn next_entry(stage: Stage, reader: &mut Reader) -> Option<LineEntry>
-    ensures next { NextRead stage (lines_left reader.old) (lines_left reader.new) result }
+    ensures next { NextRead stage reader.old reader.new result }
     ensures once { LineOnce }
 {
     let line = reader.next()?;

@@ -1,5 +1,4 @@
 // The fields of a line, as many as its word wants.
-ghost use Rattle.fields.specs.Parts.{fields_left};
 ghost use Rattle.lines.specs.Steps.{Shaped, ShapedCall};
 
 use crate::types::LineParts;
@@ -9,7 +8,7 @@ use parts::Call;
 
 // A call with the operands that its letter wants; None where there are too few.
 fn call_parts<'a>(letter: Letter, fields: &mut Fields<'a>) -> Option<Call<Part<'a>, Part<'a>>>
-    ensures { ShapedCall letter (fields_left fields.old) (fields_left fields.new) result }
+    ensures { ShapedCall letter fields.old fields.new result }
 {
     match letter {
         Letter::Open => Some(Call::Open),
@@ -25,7 +24,7 @@ fn call_parts<'a>(letter: Letter, fields: &mut Fields<'a>) -> Option<Call<Part<'
 
 // The line that the fields after a word make; None where there are too few or too many.
 pub fn shape<'a>(word: Word, mut fields: Fields<'a>) -> Option<LineParts<'a>>
-    ensures { Shaped word (fields_left fields.entry) result }
+    ensures { Shaped word fields.entry result }
 {
     let line = match word {
         Word::Rig => LineParts::Rig {

@@ -4,8 +4,8 @@ use faults::{LineFault, Place};
 use fields::Part;
 use parts::Call;
 
-// What stood on the lines before: nothing; the rig, of so many cells, and settings; calls too.
-#[derive(Clone, Copy)]
+/// What stood on the lines before: nothing; the rig, of so many cells, and settings; calls too.
+#[derive(Clone, Copy, Debug, PartialEq, Eq)]
 pub enum Stage {
     Start,
     Settings(u32),
@@ -32,8 +32,8 @@ pub enum LineParts<'a> {
     },
 }
 
-// What a line was read as, and where it begins.
-#[derive(Clone, Copy)]
+/// What a line was read as, and where it begins.
+#[derive(Clone, Copy, Debug, PartialEq, Eq)]
 pub struct LineEntry {
     pub place: Place,
     pub said: Result<Entry, LineFault>,

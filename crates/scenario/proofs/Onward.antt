@@ -3,6 +3,7 @@ use Rattle.std.proofs.Common.{◌≡◌, ℕ, suc, ◌+◌, ◌<◌, ◌≤◌, 
 use Rattle.std.proofs.lemmas.Result.{err_from_is_err_and}
 use Rattle.std.proofs.lemmas.List.{take_at, map-append, length_push}
 use Rattle.std.proofs.lemmas.Bool.{cond_both}
+use Rattle.faults.specs.declared.texts.TheConstants.{NEWLINE, LONGEST}
 use Rattle.faults.specs.declared.types.Place.{Place}
 use Rattle.fields.specs.Parts.{Piece, lines_of, onto, after_line, lines_from, text_start}
 use Rattle.entries.specs.declared.types.RigLine.{RigLine}
@@ -23,7 +24,22 @@ use Rattle.std.specs.declared.alloc.AllocError.{AllocError}
 use Rattle.scenario.specs.declared.types.ReadError.TheVariants as error
 use Rattle.scenario.specs.Texts.{RigRead, LinesRead, start, lines_of_text, TextSays, long, empty, lined}
 use Rattle.scenario.specs.Holdings.{rig_line, in_order, Read, Checked}
-use Rattle.scenario.specs.Steps.{Held, nothing, listed, put, Orderly, stage_at, to_come, LineSaid, Sized, Ends, LinesCounted}
+use Rattle.scenario.specs.Steps.{Held, nothing, put, to_come, LineSaid, Sized, Ends, LinesCounted}
+
+-- what is held, in its order
+abbrev pub listed : Held → List Entry
+listed h = in_order h.rig h.settings h.calls
+
+-- what is held where a line of this stage comes next: an entry that may stand there goes to the end
+abbrev pub Orderly : Stage → Held → Type 0
+Orderly stage.Start h = h ≡ nothing
+Orderly (stage.Settings cells) h = h.calls ≡ []
+Orderly stage.Calls h = Unit {0}
+
+-- the stage after entries
+abbrev pub stage_at : Stage → List Entry → Stage
+stage_at s [] = s
+stage_at s (e ∷ es) = stage_at (stage_after s e) es
 
 -- an entry that may stand at a stage goes to the end of what is held
 
@@ -143,7 +159,7 @@ ends-memory lines at h g e q come same is =
 
 -- the whole text
 
-pub text-ends : (text : List ℕ) (es : List Entry) (r : Result (Unit {0}) ReadError) → (0 < length text) × (length text ≤ 65536) → Ends (lines_of_text text) es r → Read text es r
+pub text-ends : (text : List ℕ) (es : List Entry) (r : Result (Unit {0}) ReadError) → (0 < length text) × (length text ≤ LONGEST) → Ends (lines_of_text text) es r → Read text es r
 text-ends text es (Ok _) (some, short) h = lined es None some short h
 text-ends text es (Err (error.Fault f)) (some, short) h = lined es (Some f) some short h
 text-ends text es (Err (error.NoMemory e)) (some, short) h = h
@@ -151,7 +167,7 @@ text-ends text es (Err (error.NoMemory e)) (some, short) h = h
 text-unsized : (text : List ℕ) (f : RigFault) → Sized text (Err f) → TextSays text [] (Some f)
 text-unsized text f s =
     let Q : RigFault → Type 0 = λ x. TextSays text [] (Some x) in
-    ⊎_elim (λ (x : (65536 < length text) × (f ≡ in_rig.Line in_line.TooLong)). subst Q (sym x.1) (long x.0)) (λ (x : (length text ≡ 0) × (f ≡ in_rig.Line (in_line.Misplaced text_start))). subst Q (sym x.1) (empty x.0)) s
+    ⊎_elim (λ (x : (LONGEST < length text) × (f ≡ in_rig.Line in_line.TooLong)). subst Q (sym x.1) (long x.0)) (λ (x : (length text ≡ 0) × (f ≡ in_rig.Line (in_line.Misplaced text_start))). subst Q (sym x.1) (empty x.0)) s
 
 pub unsized-read : (text : List ℕ) (f : RigFault) (h : Held) (q : Result (Unit {0}) ReadError) → h ≡ nothing → Sized text (Err f) → IsErrAnd q (λ y. y ≡ error.Fault f) → Read text (listed h) q
 unsized-read text f h q none s is =
@@ -165,7 +181,7 @@ pub lines-many : (text : List ℕ) → length (lines_of text) ≤ length text
 lines-many [] = omega arith
 lines-many (x ∷ xs) =
     let P : List (List ℕ) → Type 0 = λ l. length l ≤ suc (length xs) in
-    cond_both (eqb x 10) ([] ∷ lines_of xs) (onto x (lines_of xs)) P (λ _. omega (arith, lines-many xs)) (λ _. onto-many (lines_of xs) (lines-many xs))
+    cond_both (eqb x NEWLINE) ([] ∷ lines_of xs) (onto x (lines_of xs)) P (λ _. omega (arith, lines-many xs)) (λ _. onto-many (lines_of xs) (lines-many xs))
   where
     onto-many : (ls : List (List ℕ)) → length ls ≤ length xs → length (onto x ls) ≤ suc (length xs)
     onto-many [] h = omega arith
@@ -181,9 +197,9 @@ pub record Counting (lines : List Piece) (at : Entries) (n : ℕ) : Type 0 where
   pub kept : Held
   pub come : Come lines at kept
   pub is : n ≡ length (listed kept)
-  pub few : n + length (to_come at) ≤ 65536
+  pub few : n + length (to_come at) ≤ LONGEST
 
-pub counting_first : (text : List ℕ) (at : Entries) → length text ≤ 65536 → to_come at ≡ lines_of_text text → at.stage ≡ start → Counting (lines_of_text text) at 0
+pub counting_first : (text : List ℕ) (at : Entries) → length text ≤ LONGEST → to_come at ≡ lines_of_text text → at.stage ≡ start → Counting (lines_of_text text) at 0
 counting_first text at short all first =
     record { kept = nothing; come = come-first (lines_of_text text) at nothing all first refl; is = refl; few = omega (arith, ap length all, length-lines text_start (lines_of text), lines-many text) }
 
@@ -204,7 +220,7 @@ counted-fault lines at after n f q c said is =
     let p = err_from_is_err_and q is in
     rw (p.1, p.2) (listed c.kept, come-fault lines at after c.kept c.come f said)
 
-pub text-counted : (text : List ℕ) (r : Result ℕ RigFault) → (0 < length text) × (length text ≤ 65536) → LinesCounted (lines_of_text text) r → Checked text r
+pub text-counted : (text : List ℕ) (r : Result ℕ RigFault) → (0 < length text) × (length text ≤ LONGEST) → LinesCounted (lines_of_text text) r → Checked text r
 text-counted text (Ok n) (some, short) (es, h, e) = (es, lined es None some short h, e)
 text-counted text (Err f) (some, short) (es, h) = (es, lined es (Some f) some short h)
 

@@ -6,6 +6,7 @@ use Rattle.std.specs.Fmt.{IsPlainFormatter, HasWritten, DisplaysOnOk, with_newli
 use Rattle.std.specs.declared.fmt.Formatter.{Formatter}
 use Rattle.std.specs.declared.fmt.Error.{Error}
 use Rattle.std.proofs.lemmas.List.{take_more, take_all, map-append}
+use Rattle.faults.specs.declared.texts.TheConstants.{NEWLINE}
 use Rattle.fields.specs.Parts.{ended}
 use Rattle.entries.specs.declared.types.RigLine.{RigLine}
 use Rattle.entries.specs.declared.types.Setting.{Setting}
@@ -17,17 +18,17 @@ use Rattle.scenario.specs.Holdings.{rig_line, in_order}
 use Rattle.scenario.specs.Laws.{scenario_text}
 use Rattle.scenario.specs.Steps.{WritesLines}
 
-pub ended-append : (ls ms : List (List ℕ)) → ended 10 (ls ++ ms) ≡ ended 10 ls ++ ended 10 ms
+pub ended-append : (ls ms : List (List ℕ)) → ended NEWLINE (ls ++ ms) ≡ ended NEWLINE ls ++ ended NEWLINE ms
 ended-append [] ms = refl
-ended-append (l ∷ ls) ms = ap (λ x. l ++ (10 ∷ x)) (ended-append ls ms) ∙ sym (append_assoc l (10 ∷ ended 10 ls) (ended 10 ms))
+ended-append (l ∷ ls) ms = ap (λ x. l ++ (NEWLINE ∷ x)) (ended-append ls ms) ∙ sym (append_assoc l (NEWLINE ∷ ended NEWLINE ls) (ended NEWLINE ms))
 
 -- one line more
-line-more : {X : Type 0} (text : X → List ℕ) (xs : List X) (i : ℕ) (x : X) → i < length xs → x ≡ get_or xs i x → ended 10 (map text (take i xs)) ++ (text x ++ (10 ∷ [])) ≡ ended 10 (map text (take (i + 1) xs))
+line-more : {X : Type 0} (text : X → List ℕ) (xs : List X) (i : ℕ) (x : X) → i < length xs → x ≡ get_or xs i x → ended NEWLINE (map text (take i xs)) ++ (text x ++ (NEWLINE ∷ [])) ≡ ended NEWLINE (map text (take (i + 1) xs))
 line-more text xs i x low is =
-    ap (λ y. ended 10 (map text (take i xs)) ++ (text y ++ (10 ∷ []))) is
+    ap (λ y. ended NEWLINE (map text (take i xs)) ++ (text y ++ (NEWLINE ∷ []))) is
     ∙ sym (ended-append (map text (take i xs)) (text (get_or xs i x) ∷ []))
-    ∙ ap (ended 10) (sym (map-append text (take i xs) (get_or xs i x ∷ [])))
-    ∙ ap (λ l. ended 10 (map text l)) (sym (take_more xs i x low))
+    ∙ ap (ended NEWLINE) (sym (map-append text (take i xs) (get_or xs i x ∷ [])))
+    ∙ ap (λ l. ended NEWLINE (map text l)) (sym (take_more xs i x low))
 
 -- the loop of `write_lines`: before it, after one turn, and at its end
 pub no_lines : {W X : Type 0} (took : W → List ℕ → W → Type 0) (output : X → Option (List ℕ)) (f : Formatter W) → WritesLines took output f [] (Ok tt) f
@@ -41,7 +42,7 @@ line_written took output f g h r xs i x before line went low is = record {
       has_written_of_eq took _ _ _ _ (line-more (λ y. unwrap_or (output y) []) xs i x low is) (has_written_append took _ _ _ _ _ so_far (of_text so_far.plain (output x) (shows x) line));
 }
   where
-    of_text : IsPlainFormatter g → (o : Option (List ℕ)) → IsSome o → DisplaysOnOk took g r (with_newline o) h → HasWritten took g (unwrap_or o [] ++ (10 ∷ [])) h
+    of_text : IsPlainFormatter g → (o : Option (List ℕ)) → IsSome o → DisplaysOnOk took g r (with_newline o) h → HasWritten took g (unwrap_or o [] ++ (NEWLINE ∷ [])) h
     of_text plain None some said = cc
     of_text plain (Some text) some said = said plain went
 
@@ -49,7 +50,7 @@ pub lines_written : {W X : Type 0} (took : W → List ℕ → W → Type 0) (out
 lines_written took output f g xs i before high = let P : List _ → Type 0 = λ l. WritesLines took output f l (Ok tt) g in subst P (take_all i xs high) before
 
 text-append : (es ds : List Entry) → scenario_text (es ++ ds) ≡ scenario_text es ++ scenario_text ds
-text-append es ds = ap (ended 10) (map-append line_text es ds) ∙ ended-append (map line_text es) (map line_text ds)
+text-append es ds = ap (ended NEWLINE) (map-append line_text es ds) ∙ ended-append (map line_text es) (map line_text ds)
 
 rig-listed : (rig : Option RigLine) (rigs : List RigLine) → MatchOption rig (rigs ≡ []) (λ r. rigs ≡ r ∷ []) → map entry.Rig rigs ≡ rig_line rig
 rig-listed None rigs e = ap (map entry.Rig) e
@@ -73,9 +74,9 @@ kind-written : {W X : Type 0} (took : W → List ℕ → W → Type 0) (said : X
 kind-written took said output f g xs r lines prints plain ok =
     has_written_of_eq took _ _ _ _ (texts xs) (lines.wrote (λ x. ap is_some (prints x)) plain ok)
   where
-    texts : (ys : List _) → ended 10 (map (λ y. unwrap_or (output y) []) ys) ≡ scenario_text (map said ys)
+    texts : (ys : List _) → ended NEWLINE (map (λ y. unwrap_or (output y) []) ys) ≡ scenario_text (map said ys)
     texts [] = refl
-    texts (y ∷ ys) = (λ i. unwrap_or (prints y i) [] ++ (10 ∷ texts ys i))
+    texts (y ∷ ys) = (λ i. unwrap_or (prints y i) [] ++ (NEWLINE ∷ texts ys i))
 
 -- a scenario is written
 pub three_written : {W : Type 0} (took : W → List ℕ → W → Type 0) (e f g h : Formatter W) (rig : Option RigLine) (rigs : List RigLine) (ss ts : List Setting) (ks js : List HeadCall) (a b d : Result (Unit {0}) Error)

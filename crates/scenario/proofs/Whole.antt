@@ -3,6 +3,7 @@ use Rattle.std.proofs.Common.{◌≡◌, ℕ, suc, ◌<◌, ◌≤◌, eqb, ◌�
 use Rattle.std.specs.List.{AllByRecursion, join_with_byte}
 use Rattle.std.proofs.lemmas.List.{append_cancel_right}
 use Rattle.std.proofs.lemmas.Bool.{cond_both}
+use Rattle.faults.specs.declared.texts.TheConstants.{NEWLINE, LONGEST}
 use Rattle.faults.specs.declared.types.Place.{Place}
 use Rattle.fields.specs.Parts.{Piece, lines_of, onto, after_line, lines_from, text_start, ended, Without}
 use Rattle.fields.proofs.Joins.{lines-joined, lines-ended, lines-rejoined, ended-joined}
@@ -26,7 +27,7 @@ entries-many s p [] (e ∷ es) fault h = absurd h
 entries-many s p (l ∷ ls) [] fault h = omega arith
 entries-many s p (l ∷ ls) (e ∷ es) fault (h, t) = omega (arith, entries-many (stage_after s e) (after_line p l) ls es fault t)
 
-pub few-entries : (text : List ℕ) (es : List Entry) (fault : Option RigFault) → TextSays text es fault → length es ≤ 65536
+pub few-entries : (text : List ℕ) (es : List Entry) (fault : Option RigFault) → TextSays text es fault → length es ≤ LONGEST
 few-entries text _ _ (long h) = omega arith
 few-entries text _ _ (empty h) = omega arith
 few-entries text _ _ (lined es fault some short h) = omega (arith, entries-many start text_start (lines_of text) es fault h, lines-many text)
@@ -46,13 +47,13 @@ lawful-read s p [] (e ∷ es) a b = absurd b
 lawful-read s p (l ∷ ls) [] a b = absurd b
 lawful-read s p (l ∷ ls) (e ∷ es) (fits, here, allowed, a) (said, b) = (((said, here), allowed), lawful-read (stage_after s e) (after_line p l) ls es a b)
 
-lines-apart : (es : List Entry) (ls : List (List ℕ)) → LinesSay es ls → AllByRecursion (λ (l : List ℕ). Without 10 l × (0 < length l)) ls
+lines-apart : (es : List Entry) (ls : List (List ℕ)) → LinesSay es ls → AllByRecursion (λ (l : List ℕ). Without NEWLINE l × (0 < length l)) ls
 lines-apart [] [] h = tt
 lines-apart [] (l ∷ ls) h = absurd h
 lines-apart (e ∷ es) [] h = absurd h
 lines-apart (e ∷ es) (l ∷ ls) (said, h) = (says-line l e said, lines-apart es ls h)
 
-lines-without : (ls : List (List ℕ)) → AllByRecursion (λ (l : List ℕ). Without 10 l × (0 < length l)) ls → AllByRecursion (Without 10) ls
+lines-without : (ls : List (List ℕ)) → AllByRecursion (λ (l : List ℕ). Without NEWLINE l × (0 < length l)) ls → AllByRecursion (Without NEWLINE) ls
 lines-without [] h = tt
 lines-without (l ∷ ls) ((a, b), h) = (a, lines-without ls h)
 
@@ -64,19 +65,19 @@ say-many (e ∷ es) (l ∷ ls) (said, h) = ap suc (say-many es ls h)
 
 -- a text of these lines has these lines
 
-text-lines : (text : List ℕ) (es : List Entry) (ls : List (List ℕ)) → 0 < length es → LinesSay es ls → ((text ≡ ended 10 ls) ⊎ (text ≡ join_with_byte 10 ls)) → lines_of text ≡ ls
+text-lines : (text : List ℕ) (es : List Entry) (ls : List (List ℕ)) → 0 < length es → LinesSay es ls → ((text ≡ ended NEWLINE ls) ⊎ (text ≡ join_with_byte NEWLINE ls)) → lines_of text ≡ ls
 text-lines text es ls some say (inl e) = ap lines_of e ∙ lines-ended ls (lines-without ls (lines-apart es ls say))
 text-lines text es ls some say (inr e) = ap lines_of e ∙ lines-rejoined ls (omega (arith, say-many es ls say)) (lines-apart es ls say)
 
-lines-text : (text : List ℕ) → 0 < length text → (text ≡ ended 10 (lines_of text)) ⊎ (text ≡ join_with_byte 10 (lines_of text))
+lines-text : (text : List ℕ) → 0 < length text → (text ≡ ended NEWLINE (lines_of text)) ⊎ (text ≡ join_with_byte NEWLINE (lines_of text))
 lines-text text some =
-    ⊎_elim (λ (e : ended 10 (lines_of text) ≡ text). inl (sym e))
-    (λ (e : ended 10 (lines_of text) ≡ text ++ (10 ∷ [])). inr (cut (lines_of text) e))
+    ⊎_elim (λ (e : ended NEWLINE (lines_of text) ≡ text). inl (sym e))
+    (λ (e : ended NEWLINE (lines_of text) ≡ text ++ (NEWLINE ∷ [])). inr (cut (lines_of text) e))
     (lines-joined text)
   where
-    cut : (ls : List (List ℕ)) → ended 10 ls ≡ text ++ (10 ∷ []) → text ≡ join_with_byte 10 ls
-    cut [] e = absurd (omega (arith, ap length e, length-append text (10 ∷ [])))
-    cut (l ∷ ls) e = append_cancel_right text (join_with_byte 10 (l ∷ ls)) (10 ∷ []) (sym e ∙ sym (ended-joined 10 (l ∷ ls) (omega arith)))
+    cut : (ls : List (List ℕ)) → ended NEWLINE ls ≡ text ++ (NEWLINE ∷ []) → text ≡ join_with_byte NEWLINE ls
+    cut [] e = absurd (omega (arith, ap length e, length-append text (NEWLINE ∷ [])))
+    cut (l ∷ ls) e = append_cancel_right text (join_with_byte NEWLINE (l ∷ ls)) (NEWLINE ∷ []) (sym e ∙ sym (ended-joined NEWLINE (l ∷ ls) (omega arith)))
 
 -- the law
 
@@ -89,7 +90,7 @@ some-line : (text : List ℕ) → 0 < length text → 0 < length (lines_from tex
 some-line [] some = absurd (omega arith)
 some-line (x ∷ xs) some =
     let P : List (List ℕ) → Type 0 = λ l. 0 < length (lines_from text_start l) in
-    cond_both (eqb x 10) ([] ∷ lines_of xs) (onto x (lines_of xs)) P (λ _. omega arith) (λ _. onto-some (lines_of xs))
+    cond_both (eqb x NEWLINE) ([] ∷ lines_of xs) (onto x (lines_of xs)) P (λ _. omega arith) (λ _. onto-some (lines_of xs))
   where
     onto-some : (ls : List (List ℕ)) → 0 < length (lines_from text_start (onto x ls))
     onto-some [] = omega arith
@@ -125,5 +126,5 @@ rendered-says es some lawful short = whole-said (scenario_text es) es (record { 
 
 -- a reading to the end holds no more entries than a text has bytes
 
-pub few-held : (text : List ℕ) (es : List Entry) (end : Result (Unit {0}) ReadError) → Read text es end → end ≡ Ok tt → length es ≤ 65536
+pub few-held : (text : List ℕ) (es : List Entry) (end : Result (Unit {0}) ReadError) → Read text es end → end ≡ Ok tt → length es ≤ LONGEST
 few-held text es end h e = let P : Result (Unit {0}) ReadError → Type 0 = λ x. Read text es x in few-entries text es None (subst P e h)

@@ -1,6 +1,7 @@
 -- The text of a scenario, and that reading and rendering are inverse.
 use Rattle.std.specs.Prelude.{◌≡◌, ℕ, ◌<◌, ◌≤◌, ◌⊎◌, List, [], ◌∷◌, ◌++◌, map, length, Some, None, codes, decimal, Option}
 use Rattle.std.specs.List.{join_with_byte}
+use Rattle.faults.specs.declared.texts.TheConstants.{NEWLINE, TAB, LONGEST}
 use Rattle.fields.specs.Parts.{ended}
 use Rattle.entries.specs.declared.types.Entry.{Entry}
 use Rattle.lines.specs.declared.types.Stage.{Stage}
@@ -10,9 +11,9 @@ use Rattle.faults.specs.declared.types.RigFault.{RigFault}
 use Rattle.scenario.specs.Texts.{Allowed, start, TextSays}
 use Rattle.faults.specs.Reports.{report_of, report_text}
 
--- the text of each entry, with a newline (byte 10) after it
+-- the text of each entry, with a newline after it
 abbrev pub scenario_text : List Entry → List ℕ
-scenario_text es = ended 10 (map line_text es)
+scenario_text es = ended NEWLINE (map line_text es)
 
 -- entries that a scenario may have: each in range, in its place, and allowed by the rig
 abbrev pub Lawful : Stage → List Entry → Type 0
@@ -28,11 +29,11 @@ LinesSay (e ∷ es) (l ∷ ls) = Says l e × LinesSay es ls
 
 -- the text is made of such lines, with or without the last newline
 abbrev pub TextOf : List Entry → List ℕ → Type 0
-TextOf es text = (ls : List (List ℕ)) × LinesSay es ls × ((text ≡ ended 10 ls) ⊎ (text ≡ join_with_byte 10 ls))
+TextOf es text = (ls : List (List ℕ)) × LinesSay es ls × ((text ≡ ended NEWLINE ls) ⊎ (text ≡ join_with_byte NEWLINE ls))
 
 pub record Whole (text : List ℕ) (es : List Entry) : Type 0 where
   pub some : 0 < length es
-  pub short : length text ≤ 65536
+  pub short : length text ≤ LONGEST
   pub lawful : Lawful start es
   pub made : TextOf es text
 
@@ -42,14 +43,14 @@ SaysExactly = (text : List ℕ) (es : List Entry) → (TextSays text es None →
 
 -- what is rendered says what was rendered
 abbrev pub RenderedSays : Type 0
-RenderedSays = (es : List Entry) → 0 < length es → Lawful start es → length (scenario_text es) ≤ 65536 → TextSays (scenario_text es) es None
+RenderedSays = (es : List Entry) → 0 < length es → Lawful start es → length (scenario_text es) ≤ LONGEST → TextSays (scenario_text es) es None
 
 -- What `readback` prints: the entries up to the first fault, and a line that tells how the reading ended.
 
 -- the word `whole` and the number of lines, or the fault
 abbrev pub ending : List Entry → Option RigFault → List ℕ
-ending es None = join_with_byte 9 (codes "whole" ∷ decimal (length es) ∷ [])
+ending es None = join_with_byte TAB (codes "whole" ∷ decimal (length es) ∷ [])
 ending es (Some f) = report_text (report_of f)
 
 abbrev pub ReadBack : List ℕ → List ℕ → Type 0
-ReadBack text out = (es : List Entry) × ((fault : Option RigFault) × TextSays text es fault × (out ≡ scenario_text es ++ (ending es fault ++ (10 ∷ []))))
+ReadBack text out = (es : List Entry) × ((fault : Option RigFault) × TextSays text es fault × (out ≡ scenario_text es ++ (ending es fault ++ (NEWLINE ∷ []))))

@@ -4,14 +4,14 @@ use Rattle.std.specs.Option.{unwrap_or}
 use Rattle.std.specs.Fmt.{IsPlainFormatter, HasWritten}
 use Rattle.std.specs.declared.fmt.Error.{Error}
 use Rattle.std.specs.declared.fmt.Formatter.{Formatter}
-use Rattle.fields.specs.Parts.{Piece, ended, lines_left, text_start}
+use Rattle.faults.specs.declared.texts.TheConstants.{NEWLINE, LONGEST}
+use Rattle.fields.specs.Parts.{Piece, ended, text_start}
 use Rattle.entries.specs.declared.types.RigLine.{RigLine}
 use Rattle.entries.specs.declared.types.Setting.{Setting}
 use Rattle.entries.specs.declared.types.HeadCall.{HeadCall}
 use Rattle.entries.specs.declared.types.Entry.{Entry}
 use Rattle.entries.specs.declared.types.Entry.TheVariants as entry
 use Rattle.lines.specs.declared.types.Stage.{Stage}
-use Rattle.lines.specs.declared.types.Stage.TheVariants as stage
 use Rattle.faults.specs.declared.types.LineFault.TheVariants as in_line
 use Rattle.lines.specs.Faults.{stage_after}
 use Rattle.faults.specs.declared.types.RigFault.{RigFault}
@@ -21,7 +21,6 @@ use Rattle.scenario.specs.declared.types.ReadError.TheVariants as error
 use Rattle.scenario.specs.declared.texts.Entries.{Entries}
 use Rattle.scenario.specs.declared.types.Scenario.{Scenario}
 use Rattle.scenario.specs.Texts.{RigRead, LinesRead, start}
-use Rattle.scenario.specs.Holdings.{in_order}
 use Rattle.scenario.specs.Laws.{scenario_text, ending}
 
 -- a scenario by its lists
@@ -36,29 +35,15 @@ held s = record { rig = s.rig; settings = vec_items s.settings; calls = vec_item
 abbrev pub nothing : Held
 nothing = record { rig = None; settings = []; calls = [] }
 
-abbrev pub listed : Held → List Entry
-listed h = in_order h.rig h.settings h.calls
-
 -- with one entry more
 abbrev pub put : Held → Entry → Held
 put h (entry.Rig r) = record { rig = Some r; settings = h.settings; calls = h.calls }
 put h (entry.Set x) = record { rig = h.rig; settings = h.settings ++ (x ∷ []); calls = h.calls }
 put h (entry.Call k) = record { rig = h.rig; settings = h.settings; calls = h.calls ++ (k ∷ []) }
 
--- what is held where a line of this stage comes next: an entry that may stand there goes to the end
-abbrev pub Orderly : Stage → Held → Type 0
-Orderly stage.Start h = h ≡ nothing
-Orderly (stage.Settings cells) h = h.calls ≡ []
-Orderly stage.Calls h = Unit {0}
-
--- the stage after entries
-abbrev pub stage_at : Stage → List Entry → Stage
-stage_at s [] = s
-stage_at s (e ∷ es) = stage_at (stage_after s e) es
-
 -- the lines that are still to come
 abbrev pub to_come : Entries → List Piece
-to_come s = lines_left s.reader
+to_come s = s.reader
 
 -- the stage after a line that is read as this
 abbrev pub stage_then : Stage → Result Entry RigFault → Stage
@@ -79,8 +64,8 @@ NextSaid before (Some r) after = LineSaid before r after
 
 -- a text whose lines are read: not too long, and not empty
 abbrev pub Sized : List ℕ → Result (Unit {0}) RigFault → Type 0
-Sized text (Ok _) = (0 < length text) × (length text ≤ 65536)
-Sized text (Err f) = ((65536 < length text) × (f ≡ in_rig.Line in_line.TooLong)) ⊎ ((length text ≡ 0) × (f ≡ in_rig.Line (in_line.Misplaced text_start)))
+Sized text (Ok _) = (0 < length text) × (length text ≤ LONGEST)
+Sized text (Err f) = ((LONGEST < length text) × (f ≡ in_rig.Line in_line.TooLong)) ⊎ ((length text ≡ 0) × (f ≡ in_rig.Line (in_line.Misplaced text_start)))
 
 -- the lines say what is held, all of them or up to the fault; where memory ran out, the first of them do
 abbrev pub Ends : List Piece → List Entry → Result (Unit {0}) ReadError → Type 0
@@ -95,13 +80,13 @@ LinesCounted lines (Err f) = (es : List Entry) × LinesRead start lines es (Some
 
 -- what is told of a reading: its lines, and how it ended; nothing, where memory ran out
 abbrev pub Told : List Entry → Result (Unit {0}) ReadError → List ℕ → Type 0
-Told es (Ok _) out = out ≡ scenario_text es ++ (ending es None ++ (10 ∷ []))
-Told es (Err (error.Fault f)) out = out ≡ scenario_text es ++ (ending es (Some f) ++ (10 ∷ []))
+Told es (Ok _) out = out ≡ scenario_text es ++ (ending es None ++ (NEWLINE ∷ []))
+Told es (Err (error.Fault f)) out = out ≡ scenario_text es ++ (ending es (Some f) ++ (NEWLINE ∷ []))
 Told es (Err (error.NoMemory e)) out = ⊥
 
--- after a write that is `Ok`, each item is written with a newline (byte 10) after it, if all have a text
+-- after a write that is `Ok`, each item is written with a newline after it, if all have a text
 pub record WritesLines {W X : Type 0} (took : W → List ℕ → W → Type 0) (output : X → Option (List ℕ)) (before : Formatter W) (items : List X) (r : Result (Unit {0}) Error) (after : Formatter W) : Type 0 where
-  pub wrote : ((x : X) → IsSome (output x)) → IsPlainFormatter before → IsOk r → HasWritten took before (ended 10 (map (λ x. unwrap_or (output x) []) items)) after
+  pub wrote : ((x : X) → IsSome (output x)) → IsPlainFormatter before → IsOk r → HasWritten took before (ended NEWLINE (map (λ x. unwrap_or (output x) []) items)) after
 
 -- the list that takes the entry has no room left
 abbrev pub LacksRoom : Scenario → Entry → Type 0

@@ -1,5 +1,7 @@
 -- What a whole text says: line after line, up to the first fault.
-use Rattle.std.specs.Prelude.{◌≡◌, ℕ, ◌<◌, ◌≤◌, List, [], ◌∷◌, length, Some, None, Ok, Err, Option, Result}
+use Rattle.std.specs.Prelude.{◌≡◌, ℕ, ◌<◌, ◌≤◌, List, [], ◌∷◌, length, Some, None, Ok, Err, Option, Result, IsTrue}
+use Rattle.faults.specs.declared.texts.TheConstants.{LONGEST}
+use Rattle.parts.specs.Sizes.{in_range}
 use Rattle.fields.specs.Parts.{Piece, lines_at, text_start}
 use Rattle.entries.specs.declared.types.RigLine.{RigLine}
 use Rattle.entries.specs.declared.types.Setting.{Setting}
@@ -18,9 +20,9 @@ cells_at stage.Start = 0
 cells_at (stage.Settings cells) = cells
 cells_at stage.Calls = 0
 
--- a rig has 1 to 8 heads and 1 to 1,024 cells, and a setting names one of the cells
+-- a rig is as large as one may be, and a setting names one of its cells
 abbrev pub Allowed : Stage → Entry → Type 0
-Allowed s (entry.Rig r) = (1 ≤ r.heads) × (r.heads ≤ 8) × (1 ≤ r.cells) × (r.cells ≤ 1024)
+Allowed s (entry.Rig r) = IsTrue (in_range r.heads r.cells)
 Allowed s (entry.Set x) = x.cell < cells_at s
 Allowed s (entry.Call k) = Unit {0}
 
@@ -49,9 +51,9 @@ lines_of_text text = lines_at text_start text
 -- the text says these entries, up to this fault or its end: a text of more than 65,536 bytes is too long,
 -- and an empty one lacks the rig line; any other is read line by line
 pub data TextSays (text : List ℕ) : List Entry → Option RigFault → Type 0 where
-  long : 65536 < length text → TextSays text [] (Some (in_rig.Line in_line.TooLong))
+  long : LONGEST < length text → TextSays text [] (Some (in_rig.Line in_line.TooLong))
   empty : length text ≡ 0 → TextSays text [] (Some (in_rig.Line (in_line.Misplaced text_start)))
-  lined : (es : List Entry) (fault : Option RigFault) → 0 < length text → length text ≤ 65536 → LinesRead start (lines_of_text text) es fault → TextSays text es fault
+  lined : (es : List Entry) (fault : Option RigFault) → 0 < length text → length text ≤ LONGEST → LinesRead start (lines_of_text text) es fault → TextSays text es fault
 
 -- a text is read in one way
 abbrev pub TextOnce : Type 0

@@ -9,7 +9,6 @@ mod texts;
 mod types;
 
 pub use printed::readback;
-pub use render::write_lines;
 pub use streams::{print_readback, read_text, write_text};
-pub use texts::{check, read};
+pub use texts::{LONGEST, check, read};
 pub use types::{ReadError, Reading, Scenario};

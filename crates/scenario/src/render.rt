@@ -10,7 +10,7 @@ use std::fmt;
 
 // Writes each item, on a line of its own.
 #[tactic(auto, using(crate::proofs::Rendered::no_lines, crate::proofs::Rendered::line_written, crate::proofs::Rendered::lines_written))]
-pub fn write_lines<T: fmt::Display, W: fmt::Write>(
+fn write_lines<T: fmt::Display, W: fmt::Write>(
     f: &mut fmt::Formatter<W>,
     items: &[T],
 ) -> fmt::Result
@@ -34,7 +34,7 @@ impl fmt::Display for Scenario {
 }
 
 impl Scenario {
-    // The text of the scenario, its policy always written out.
+    /// The text of the scenario, its policy always written out.
     pub fn render(&self, heap: Global) -> Result<String, AllocError>
         ensures written { IfOk result (λ t. string_bytes t ≡ scenario_text (entries_of self.now)) }
         ensures inverse { RenderedSays }

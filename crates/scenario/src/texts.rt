@@ -1,6 +1,7 @@
 // Reading a whole text.
 ghost use Rattle.std.specs.Prelude.{◌≡◌, ℕ, ◌<◌, ◌≤◌, List, length, Decides, MatchResult, OnErr};
 ghost use Rattle.std.specs.Iterator.{item_count};
+ghost use Rattle.faults.specs.declared.texts.TheConstants.{LONGEST};
 ghost use Rattle.entries.specs.declared.types.Entry.TheVariants as entries;
 ghost use Rattle.lines.specs.Faults.{LineRead};
 ghost use Rattle.scenario.specs.Texts.{Allowed, RigRead, TextOnce, start, lines_of_text};
@@ -9,16 +10,18 @@ ghost use Rattle.scenario.specs.Steps.{Sized, held, put, nothing, to_come, NextS
 
 use crate::types::{ReadError, Reading, Scenario};
 use entries::{Entry, RigLine};
+pub use faults::LONGEST;
 use faults::{LineFault, Place, RigFault};
 use fields::Reader;
 use lines::{LineEntry, Stage, next_entry};
+use parts::Size;
 use std::alloc::{AllocError, Global};
 
 // Whether a rig may have so many heads and cells.
 fn allowed(rig: RigLine) -> bool
     ensures { Decides result (Allowed start (entries.Rig rig)) }
 {
-    (1..=8).contains(&rig.heads) && (1..=1024).contains(&rig.cells)
+    Size::new(rig.heads, rig.cells).is_some()
 }
 
 // What a line is read as, with what the rig refuses of it.
@@ -71,9 +74,6 @@ impl Iterator for Entries<'_> {
         Some(said)
     }
 }
-
-// The longest text that is read, in bytes.
-pub(crate) const LONGEST: usize = 65_536;
 
 // That the text has a line to begin with, and is not too long.
 fn sized(text: &[u8]) -> Result<(), RigFault>
@@ -133,7 +133,7 @@ fn take_text(scenario: &mut Scenario, text: &[u8]) -> Result<(), ReadError>
     take_lines(scenario, text)
 }
 
-// What the text says, up to its first fault.
+/// What the text says, up to its first fault (docs/RULES.md, "Faults").
 pub fn read(heap: Global, text: &[u8]) -> Reading
     ensures says { Read text.now (entries_of result.scenario) result.end }
     ensures once { TextOnce }
@@ -150,7 +150,7 @@ pub fn read(heap: Global, text: &[u8]) -> Reading
 // The first fault of the lines of a text, or how many lines it has.
 #[tactic(auto, using(crate::proofs::Onward::counting_first, crate::proofs::Onward::counting_next))]
 fn count_lines(text: &[u8]) -> Result<usize, RigFault>
-    requires { length text.now ≤ 65536 }
+    requires { length text.now ≤ LONGEST }
     ensures { LinesCounted (lines_of_text text.now) result }
 {
     // no plainer by `try_fold`, which would owe a proof that its sum fits over every run of the iterator
@@ -162,7 +162,7 @@ fn count_lines(text: &[u8]) -> Result<usize, RigFault>
     Ok(count)
 }
 
-// The first fault of a text, or how many lines it has where it has none. It needs no memory.
+/// The first fault of a text, or how many lines it has where it has none. It needs no memory.
 pub fn check(text: &[u8]) -> Result<usize, RigFault>
     ensures { Checked text.now result }
 {

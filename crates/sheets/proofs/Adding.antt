@@ -3,6 +3,7 @@ use Rattle.std.proofs.Common.{◌≡◌, ℕ, List, [], ◌∷◌, ◌++◌, ℤ
 use Rattle.std.specs.Str.{IsUtf8}
 use Rattle.std.proofs.lemmas.Str.{IsUtf8-append}
 use Rattle.entries.specs.declared.types.HeadCall.{HeadCall}
+use Rattle.faults.specs.declared.texts.TheConstants.{NEWLINE}
 use Rattle.fields.specs.Parts.{ended}
 use Rattle.rules.specs.Answers.{Answer}
 use Rattle.scenario.proofs.Rendered.{ended-append}
@@ -16,8 +17,8 @@ no_row_left (k ∷ calls) (x ∷ answers) (inl none) = cc
 no_row_left (k ∷ calls) (x ∷ answers) (inr none) = cc
 
 -- the last lines are added
-pub end_added : (before after : List ℕ) (lines more : List (List ℕ)) → before ≡ ended 10 lines → after ≡ before ++ ended 10 more → after ≡ ended 10 (lines ++ more)
-end_added before after lines more has added = added ∙ ap (λ b. b ++ ended 10 more) has ∙ sym (ended-append lines more)
+pub end_added : (before after : List ℕ) (lines more : List (List ℕ)) → before ≡ ended NEWLINE lines → after ≡ before ++ ended NEWLINE more → after ≡ ended NEWLINE (lines ++ more)
+end_added before after lines more has added = added ∙ ap (λ b. b ++ ended NEWLINE more) has ∙ sym (ended-append lines more)
 
 -- what is added to a text leaves it a text, and so does a failure to add it
 pub still_text : (added : Bool) (old more : List ℕ) → IsUtf8 old → IsUtf8 more → IsUtf8 (cond added (old ++ more) old)

@@ -1,5 +1,5 @@
 -- A scenario that was read: its parts, its lines, and that its run can begin.
-use Rattle.std.proofs.Common.{◌≡◌, ℕ, ◌<◌, ◌≤◌, IsTrue, rules, All, List, [], ◌∷◌, ◌++◌, map, length, Some, None, Option, Result, refl, sym, ap, ◌∙◌, subst, arith}
+use Rattle.std.proofs.Common.{◌≡◌, ℕ, ◌<◌, All, List, [], ◌∷◌, ◌++◌, map, length, Some, None, Option, Result, refl, sym, ap, ◌∙◌, subst, arith}
 use Rattle.std.specs.Option.{ForSome}
 use Rattle.std.proofs.lemmas.List.Elements.{All-nil, All-cons}
 use Rattle.entries.specs.declared.types.RigLine.{RigLine}
@@ -13,7 +13,6 @@ use Rattle.faults.specs.declared.types.RigFault.{RigFault}
 use Rattle.scenario.specs.declared.types.ReadError.{ReadError}
 use Rattle.scenario.specs.Texts.{LinesRead, start, lines_of_text, TextSays, long, empty, lined}
 use Rattle.scenario.specs.Holdings.{in_order, Read}
-use Rattle.rules.specs.Calls.{in_range}
 use Rattle.sheets.specs.Kits.{kit_named}
 use Rattle.sheets.specs.Starts.{CanBegin, first_bench}
 use Rattle.sheets.specs.Sheets.{end_lines, run_lines, settings_in, calls_in, sheet_lines, end_at}
@@ -63,13 +62,10 @@ settings-within cells ls [] ks fault h = All-nil (λ (s : Setting). s.cell < cel
 settings-within cells [] (s ∷ ss) ks fault h = absurd h
 settings-within cells (l ∷ ls) (s ∷ ss) ks fault (h, t) = All-cons (λ (x : Setting). x.cell < cells) s ss h.1 (settings-within cells ls ss ks fault t)
 
-allowed-in-range : (heads cells : ℕ) → (1 ≤ heads) × (heads ≤ 8) × (1 ≤ cells) × (cells ≤ 1024) → IsTrue (in_range heads cells)
-allowed-in-range heads cells (a, b, c, d) = search rules
-
 lines-begin : (ls : List Piece) (r : RigLine) (ss : List Setting) (ks : List HeadCall) (fault : Option RigFault)
     → LinesRead start ls (in_order (Some r) ss ks) fault → CanBegin r.heads r.cells ss
 lines-begin [] r ss ks fault h = absurd h
-lines-begin (l ∷ ls) r ss ks fault (h, t) = record { in_range = allowed-in-range r.heads r.cells h.1; within = settings-within r.cells ls ss ks fault t }
+lines-begin (l ∷ ls) r ss ks fault (h, t) = record { in_range = h.1; within = settings-within r.cells ls ss ks fault t }
 
 said-lines : (text : List ℕ) (es : List Entry) (fault : Option RigFault) → TextSays text es fault → 0 < length es → LinesRead start (lines_of_text text) es fault
 said-lines text _ _ (long h) some = absurd (omega arith)

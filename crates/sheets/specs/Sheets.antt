@@ -1,6 +1,7 @@
 -- Run sheets, line by line.
 use Rattle.std.specs.Prelude.{◌≡◌, ℕ, ℤ, List, [], ◌∷◌, ◌++◌, map, Some, None, Ok, Err, Option, Result, vec_items}
 use Rattle.std.specs.List.{filter_map}
+use Rattle.faults.specs.declared.texts.TheConstants.{NEWLINE}
 use Rattle.fields.specs.Parts.{ended}
 use Rattle.entries.specs.declared.types.Setting.{Setting}
 use Rattle.entries.specs.declared.types.HeadCall.{HeadCall}
@@ -65,12 +66,12 @@ end_at None = Ok tt
 end_at (Some f) = Err (error.Fault f)
 
 -- the run sheet of a text: what the text says up to its first fault or its end, run by the rule book, each line with a
--- newline (byte 10)
+-- newline
 pub record SheetOf (text out : List ℕ) : Type 0 where
   pub entries : List Entry
   pub fault : Option RigFault
   pub says : TextSays text entries fault
-  pub is : out ≡ ended 10 (sheet_lines entries fault)
+  pub is : out ≡ ended NEWLINE (sheet_lines entries fault)
 
 -- no text has two run sheets
 abbrev pub SheetOnce : Type 0

@@ -6,7 +6,8 @@ use Rattle.rules.specs.declared.types.LentLists.TheVariants as lent
 use Rattle.rules.specs.declared.types.MadeCall.{MadeCall}
 use Rattle.rules.specs.Logs.{slot}
 use Rattle.rules.specs.Bench.{Bench, bench}
-use Rattle.rules.specs.Calls.{new_table, in_range}
+use Rattle.parts.specs.Sizes.{in_range}
+use Rattle.rules.specs.Calls.{new_table}
 use Rattle.rules.specs.Refusals.{by_number}
 
 -- each call is made by its head's number, with lists of right length

@@ -1,6 +1,7 @@
 // The run of a scenario on the rig that its rig line names. Each pair of a board and a policy is compiled by itself.
 ghost use Rattle.std.specs.Prelude.{◌≡◌, IfOk, vec_items, string_bytes};
 ghost use Rattle.std.specs.Option.{ForSome};
+ghost use Rattle.faults.specs.declared.texts.TheConstants.{NEWLINE};
 ghost use Rattle.fields.specs.Parts.{ended};
 ghost use Rattle.rules.specs.Kit.{kit_of};
 ghost use Rattle.scenario.specs.Holdings.{entries_of};
@@ -27,7 +28,7 @@ fn sheet_with<B: Board + Drop, P: Policy + Drop>(
     requires { CanBegin set_up.heads set_up.cells (vec_items scenario.now.settings) }
     ensures { let kit = kit_of ⟦<i32 as parts::Word>⟧ B.Board P.Policy set_up.board set_up.policy in
         IfOk result (λ t. string_bytes t
-        ≡ ended 10 (held_run kit set_up.heads set_up.cells scenario.now fault)) }
+        ≡ ended NEWLINE (held_run kit set_up.heads set_up.cells scenario.now fault)) }
 {
     let calls = ByHead {
         calls: &scenario.calls,
@@ -55,7 +56,7 @@ fn sheet_on<B: Board + Drop>(
     requires { CanBegin rig.heads rig.cells (vec_items scenario.now.settings) }
     ensures { let kit = kit_on (B.line board) (B.fits board) rig.policy in
         IfOk result (λ t. string_bytes t
-        ≡ ended 10 (held_run kit rig.heads rig.cells scenario.now fault)) }
+        ≡ ended NEWLINE (held_run kit rig.heads rig.cells scenario.now fault)) }
 {
     let RigLine {
         heads,
@@ -95,7 +96,7 @@ fn sheet_of_rig(
     requires { CanBegin rig.heads rig.cells (vec_items scenario.now.settings) }
     ensures { let kit = kit_named rig.board rig.policy in
         IfOk result (λ t. string_bytes t
-        ≡ ended 10 (held_run kit rig.heads rig.cells scenario.now fault)) }
+        ≡ ended NEWLINE (held_run kit rig.heads rig.cells scenario.now fault)) }
 {
     match rig.board {
         BoardName::Stores => {
@@ -118,7 +119,7 @@ pub(crate) fn sheet_of(
 ) -> Result<String, AllocError>
     requires { ForSome scenario.now.rig
         (λ r. CanBegin r.heads r.cells (vec_items scenario.now.settings)) }
-    ensures { IfOk result (λ t. string_bytes t ≡ ended 10 (sheet_lines (entries_of scenario.now) fault)) }
+    ensures { IfOk result (λ t. string_bytes t ≡ ended NEWLINE (sheet_lines (entries_of scenario.now) fault)) }
 {
     match scenario.rig {
         Some(rig) => sheet_of_rig(heap, rig, scenario, fault),

@@ -3,6 +3,7 @@ ghost use Rattle.std.specs.Prelude.{◌≡◌, ◌≤◌, ◌∷◌, [], ◌++�
 ghost use Rattle.std.specs.Fmt.{decimal};
 ghost use Rattle.std.specs.Str.{IsAscii};
 ghost use Rattle.entries.specs.Rendering.{letter_text};
+ghost use Rattle.faults.specs.declared.texts.TheConstants.{NEWLINE};
 ghost use Rattle.fields.specs.Parts.{ended};
 ghost use Rattle.rules.specs.Answers.{granted_value, answer_number, answer_value};
 ghost use Rattle.sheets.specs.Rows.{value_text, row_text, cell_row_text};
@@ -11,6 +12,7 @@ use crate::line::Line;
 use crate::types::{CellRow, Row};
 use crate::written::Lines;
 use entries::{HeadCall, Letter};
+use fields::{NEWLINE, TAB};
 use rules::{Closing, Granted, Refusal};
 use runs::Answer;
 use std::alloc::AllocError;
@@ -141,7 +143,7 @@ fn value_byte(value: Option<i64>) -> Option<u8>
 // The whole line of a call, if each number in it is one byte, as in most lines: these bytes are put together in
 // registers, which is much quicker than to write the parts one by one and then copy them.
 fn short_line(row: Row) -> Option<[u8; 8]>
-    ensures text { IfSome result (λ line. line ≡ ended 10 (row_text row ∷ [])) }
+    ensures text { IfSome result (λ line. line ≡ ended NEWLINE (row_text row ∷ [])) }
     ensures ascii { IfSome result (λ line. IsAscii line) }
 {
     let Row {
@@ -152,13 +154,13 @@ fn short_line(row: Row) -> Option<[u8; 8]>
     let head = number_byte(u64::from(head))?;
     let number = number_byte(u64::from(answer_number(answer)))?;
     let value = value_byte(answer_value(answer))?;
-    Some([letter, b'\t', head, b'\t', number, b'\t', value, b'\n'])
+    Some([letter, TAB, head, TAB, number, TAB, value, NEWLINE])
 }
 
 impl Lines {
     // Adds the line of a call.
     pub(crate) fn push_row(&mut self, row: Row) -> Result<(), AllocError>
-        ensures { OnOk result (self.new ≡ self.old ++ ended 10 (row_text row ∷ [])) }
+        ensures { OnOk result (self.new ≡ self.old ++ ended NEWLINE (row_text row ∷ [])) }
     {
         match short_line(row) {
             Some(line) => self.push_short(&line),
@@ -173,7 +175,7 @@ impl Lines {
 
     // Adds the line of a cell.
     pub(crate) fn push_cell_row(&mut self, row: CellRow) -> Result<(), AllocError>
-        ensures { OnOk result (self.new ≡ self.old ++ ended 10 (cell_row_text row ∷ [])) }
+        ensures { OnOk result (self.new ≡ self.old ++ ended NEWLINE (cell_row_text row ∷ [])) }
     {
         let mut line = Line::new();
         line.put("\n");

@@ -1,5 +1,6 @@
 // The text of a run sheet: a line for each call with its answer, and then the cells that are left, or the fault.
 ghost use Rattle.std.specs.Prelude.{◌≡◌, ◌++◌, map, IfOk, OnOk, string_bytes};
+ghost use Rattle.faults.specs.declared.texts.TheConstants.{NEWLINE};
 ghost use Rattle.fields.specs.Parts.{ended};
 ghost use Rattle.sheets.specs.Rows.{row_text, rows_of, cell_row_text, cell_rows_of};
 ghost use Rattle.sheets.specs.Sheets.{end_lines};
@@ -17,7 +18,7 @@ fn push_rows(
     calls: &[HeadCall],
     answers: &[Answer<i32>],
 ) -> Result<(), AllocError>
-    ensures { OnOk result (lines.new ≡ lines.old ++ ended 10 (map row_text (rows_of calls.now answers.now))) }
+    ensures { OnOk result (lines.new ≡ lines.old ++ ended NEWLINE (map row_text (rows_of calls.now answers.now))) }
 {
     for (made, answer) in calls.iter().zip(answers) {
         lines.push_row(Row {
@@ -30,7 +31,7 @@ fn push_rows(
 
 // Adds each cell with its number.
 fn push_cells(lines: &mut Lines, cells: &[i32]) -> Result<(), AllocError>
-    ensures { OnOk result (lines.new ≡ lines.old ++ ended 10 (map cell_row_text (cell_rows_of cells.now))) }
+    ensures { OnOk result (lines.new ≡ lines.old ++ ended NEWLINE (map cell_row_text (cell_rows_of cells.now))) }
 {
     for (cell, word) in cells.iter().enumerate() {
         lines.push_cell_row(CellRow { cell, word: *word })?;
@@ -48,7 +49,7 @@ pub(crate) fn sheet_text(
     fault: Option<RigFault>,
 ) -> Result<String, AllocError>
     ensures { IfOk result (λ t. string_bytes t
-        ≡ ended 10 (map row_text (rows_of calls.now answers.now) ++ end_lines cells.now fault)) }
+        ≡ ended NEWLINE (map row_text (rows_of calls.now answers.now) ++ end_lines cells.now fault)) }
 {
     // 16 bytes a line: few are longer
     let room = (calls.len() + cells.len()).saturating_mul(16);
