@@ -2,6 +2,7 @@
 use Rattle.std.specs.Prelude.{ℕ, ◌*◌, ◌<◌, ℤ, pos, List, fold, replicate, slice_set, All, IsTrue}
 use Rattle.entries.specs.declared.types.Setting.{Setting}
 use Rattle.entries.specs.declared.types.HeadCall.{HeadCall}
+use Rattle.rules.specs.declared.limits.TheConstants.{SLOTS}
 use Rattle.rules.specs.declared.types.LentLists.TheVariants as lent
 use Rattle.rules.specs.declared.types.MadeCall.{MadeCall}
 use Rattle.rules.specs.Logs.{slot}
@@ -22,7 +23,7 @@ cells_before cells settings =
 -- the bench before the first call: a rig newly set up, those cells, and slots that no log holds
 abbrev pub first_bench : ℕ → ℕ → List Setting → Bench ℤ
 first_bench heads cells settings =
-    let slots = replicate (32 * heads) (slot 0 (pos 0)) in
+    let slots = replicate (SLOTS * heads) (slot 0 (pos 0)) in
     bench (new_table heads cells) (cells_before cells settings) slots slots
 
 -- a run can begin: such a rig is set up, and the settings name cells of it

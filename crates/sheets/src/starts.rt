@@ -7,7 +7,7 @@ ghost use Rattle.sheets.specs.Starts.{made_call, cells_before};
 ghost use Rattle.std.proofs.Common.{rules};
 
 use entries::{HeadCall, Setting};
-use rules::{Caller, LentLists, MadeCall, Slot};
+use rules::{Caller, LentLists, MadeCall, SLOTS, Slot};
 use runs::Calls;
 use std::alloc::{AllocError, Global};
 
@@ -29,10 +29,10 @@ pub(crate) fn cells_before(
 
 // The slots of so many heads, none of them in a log.
 pub(crate) fn empty_slots(heap: Global, heads: u32) -> Result<Vec<Slot<i32>>, AllocError>
-    ensures { IfOk result (λ v. v.items ≡ replicate (32 * heads) (slot 0 (pos 0))) }
+    ensures { IfOk result (λ v. v.items ≡ replicate (SLOTS * heads) (slot 0 (pos 0))) }
 {
     let slot = Slot { cell: 0, word: 0 };
-    vec![in heap; slot; 32 * heads as usize]
+    vec![in heap; slot; SLOTS * heads as usize]
 }
 
 // A call by its head's number, which gets lists of right length.
