@@ -1,10 +1,15 @@
 //! The rig itself (`docs/RULES.md`, "The rig").
 //!
-//! A scenario calls by head number, nobody else writes its lists, and its text
-//! is too short for 60,000 transactions or 70,000 attempts. So the returned
-//! numbers 2, 9, 10 and 12 cannot come, and the model has none of them; nor
-//! does it number the transactions, for no answer tells that number.
+//! Calls are made by head number, and nobody else writes the lists. So the
+//! returned numbers 2 and 12 cannot come, and the model has neither of them;
+//! nor does a head keep the number of its transaction, for no answer tells it.
+//!
+//! A scenario's text is too short for 9 and 10. They are for programs that
+//! call the rig themselves: 9 comes after 60,000 transactions, but no list of
+//! calls reaches 10, as each attempt beyond the policy's patience and one more
+//! takes a close of another transaction.
 
+use std::ops::RangeInclusive;
 use std::vec;
 
 pub const MAX_HEADS: usize = 8;
@@ -12,6 +17,12 @@ pub const MAX_CELLS: usize = 1024;
 
 /// How many cells a log has room for.
 pub const LOG: usize = 32;
+
+/// How many transactions a rig opens.
+pub const MAX_TRANSACTIONS: u16 = 60_000;
+
+/// How many attempts a transaction makes.
+pub const MAX_ATTEMPTS: u32 = 70_000;
 
 /// What a cell holds. In a scenario every word is an amount.
 pub type Word = i32;
@@ -142,6 +153,10 @@ pub enum Refusal {
     Locked,
     /// A log has no room.
     Full,
+    /// The rig has opened all transactions that it may.
+    NoMoreTransactions,
+    /// The transaction has made all attempts that it may.
+    NoMoreAttempts,
 }
 
 pub type Answer = Result<Granted, Refusal>;
@@ -367,6 +382,8 @@ pub struct Rig {
     board: Board,
     policy: Policy,
     clock: Clock,
+    /// The numbers that no transaction has taken yet.
+    numbers: RangeInclusive<u16>,
     heads: Vec<Head>,
     cells: Vec<Word>,
 }
@@ -378,6 +395,7 @@ impl Rig {
             board: setup.board,
             policy: setup.policy,
             clock: Clock::default(),
+            numbers: 1..=MAX_TRANSACTIONS,
             heads: (0..setup.heads).map(|_| Head::default()).collect(),
             cells: vec![0; setup.cells],
         }
@@ -411,7 +429,7 @@ impl Rig {
     }
 
     /// A call. What refuses it is looked for in the order of the returned
-    /// numbers: 3 and 4 here and in `cell`, then the state, then 7 and 8.
+    /// numbers: 3 and 4 here and in `cell`, then the state, then 7 to 10.
     pub fn call(&mut self, call: Call) -> Answer {
         let head = call.head as usize;
         if head >= self.heads.len() {
@@ -445,6 +463,10 @@ impl Rig {
         };
         if self.clock.is_locked() {
             return Err(Refusal::Locked);
+        }
+        // Nothing refuses the call any more once it has taken a number.
+        if self.numbers.next().is_none() {
+            return Err(Refusal::NoMoreTransactions);
         }
         me.attempts = 0;
         me.hardware_aborts = 0;
@@ -585,6 +607,9 @@ impl Rig {
         if self.clock.is_locked() {
             return Err(Refusal::Locked);
         }
+        if me.attempts >= MAX_ATTEMPTS {
+            return Err(Refusal::NoMoreAttempts);
+        }
         let mode = match cause {
             // It was a software attempt, so the next is one too.
             Cause::Changed => Mode::Software,
@@ -610,4 +635,109 @@ fn split(heads: &mut [Head], head: usize) -> (&mut Head, Others<'_>) {
     let (before, rest) = heads.split_at_mut(head);
     let (me, after) = rest.split_at_mut(1);
     (&mut me[0], Others { before, after })
+}
+
+#[cfg(test)]
+mod tests {
+    use super::*;
+
+    /// A rig of three heads and one cell. The first head has a transaction of
+    /// so many attempts, the last of them in hardware.
+    fn rig(attempts: u32) -> Rig {
+        let mut rig = Rig::new(&Setup {
+            heads: 3,
+            cells: 1,
+            board: Board::Lines,
+            policy: Policy::Plain,
+        });
+        assert_eq!(by(&mut rig, 0, Action::Open), BEGUN);
+        // No list of calls comes so far.
+        rig.heads[0].attempts = attempts;
+        rig
+    }
+
+    fn by(rig: &mut Rig, head: u32, action: Action) -> Answer {
+        rig.call(Call { head, action })
+    }
+
+    const BEGUN: Answer = Ok(Granted::Begun(Mode::Hardware));
+    const JOLTED: Answer = Err(Refusal::Aborted(Cause::Other));
+
+    #[test]
+    fn the_last_attempt_is_granted() {
+        let mut rig = rig(69_999);
+        assert_eq!(by(&mut rig, 0, Action::Jolt), JOLTED);
+        assert_eq!(by(&mut rig, 0, Action::Again), BEGUN);
+        assert_eq!(by(&mut rig, 0, Action::Close), Ok(Granted::Closed(70_000)));
+    }
+
+    #[test]
+    fn the_attempt_after_the_last_is_refused() {
+        let mut rig = rig(70_000);
+        assert_eq!(by(&mut rig, 0, Action::Jolt), JOLTED);
+        let refused = Err(Refusal::NoMoreAttempts);
+        assert_eq!(by(&mut rig, 0, Action::Again), refused);
+        // Nothing has changed.
+        assert_eq!(by(&mut rig, 0, Action::Read { cell: 0 }), JOLTED);
+        assert_eq!(rig.heads[0].attempts, 70_000);
+        assert_eq!(rig.heads[0].hardware_aborts, 1);
+        assert_eq!(by(&mut rig, 0, Action::Again), refused);
+        // It is of this transaction alone, and ends with it.
+        assert_eq!(by(&mut rig, 1, Action::Open), BEGUN);
+        assert_eq!(by(&mut rig, 1, Action::Jolt), JOLTED);
+        assert_eq!(by(&mut rig, 1, Action::Again), BEGUN);
+        assert_eq!(by(&mut rig, 0, Action::Drop), Ok(Granted::Dropped));
+        assert_eq!(by(&mut rig, 0, Action::Open), BEGUN);
+        assert_eq!(by(&mut rig, 0, Action::Jolt), JOLTED);
+        assert_eq!(by(&mut rig, 0, Action::Again), BEGUN);
+        assert_eq!(by(&mut rig, 0, Action::Close), Ok(Granted::Closed(2)));
+    }
+
+    #[test]
+    fn a_software_attempt_after_the_last_is_refused() {
+        let mut rig = rig(69_997);
+        for _ in 0..2 {
+            assert_eq!(by(&mut rig, 0, Action::Jolt), JOLTED);
+            assert_eq!(by(&mut rig, 0, Action::Again), BEGUN);
+        }
+        assert_eq!(by(&mut rig, 0, Action::Jolt), JOLTED);
+        let software = Ok(Granted::Begun(Mode::Software));
+        assert_eq!(by(&mut rig, 0, Action::Again), software);
+        let read = Action::Read { cell: 0 };
+        assert_eq!(by(&mut rig, 0, read), Ok(Granted::Word(0)));
+        assert_eq!(by(&mut rig, 1, Action::Open), BEGUN);
+        let write = Action::Write { cell: 0, word: 7 };
+        assert_eq!(by(&mut rig, 1, write), Ok(Granted::Written));
+        assert_eq!(by(&mut rig, 1, Action::Close), Ok(Granted::Closed(1)));
+        let changed = Err(Refusal::Aborted(Cause::Changed));
+        assert_eq!(by(&mut rig, 0, read), changed);
+        let refused = Err(Refusal::NoMoreAttempts);
+        assert_eq!(by(&mut rig, 0, Action::Again), refused);
+        assert_eq!(by(&mut rig, 0, read), changed);
+    }
+
+    #[test]
+    fn state_and_lock_come_before_the_attempts() {
+        let mut rig = rig(70_000);
+        // In hardware.
+        let state = Err(Refusal::State);
+        assert_eq!(by(&mut rig, 0, Action::Again), state);
+        // Another head commits in software, which aborts this one.
+        assert_eq!(by(&mut rig, 1, Action::Open), BEGUN);
+        for _ in 0..3 {
+            assert_eq!(by(&mut rig, 1, Action::Jolt), JOLTED);
+            assert!(by(&mut rig, 1, Action::Again).is_ok());
+        }
+        let write = Action::Write { cell: 0, word: 7 };
+        assert_eq!(by(&mut rig, 1, write), Ok(Granted::Written));
+        assert_eq!(by(&mut rig, 1, Action::Close), Ok(Granted::WritingBack(4)));
+        assert_eq!(by(&mut rig, 3, Action::Again), Err(Refusal::NoHead));
+        assert_eq!(by(&mut rig, 0, Action::Again), Err(Refusal::Locked));
+        assert_eq!(by(&mut rig, 1, Action::Push), Ok(Granted::Left(0)));
+        let refused = Err(Refusal::NoMoreAttempts);
+        assert_eq!(by(&mut rig, 0, Action::Again), refused);
+        // Idle after all.
+        assert_eq!(by(&mut rig, 0, Action::Drop), Ok(Granted::Dropped));
+        assert_eq!(by(&mut rig, 0, Action::Again), state);
+    }
 }

@@ -20,13 +20,7 @@ fn run(text: &[u8], sheet: &mut Vec<u8>) -> Result<(), Fault> {
         return Ok(());
     };
     let rig = run_on(setup, lines, sheet)?;
-    for (cell, &word) in rig.cells().iter().enumerate() {
-        sheet.extend_from_slice(b"cell\t");
-        unsigned(sheet, cell as u64);
-        sheet.push(b'\t');
-        signed(sheet, word.into());
-        sheet.push(b'\n');
-    }
+    cell_lines(sheet, &rig);
     Ok(())
 }
 
@@ -49,17 +43,30 @@ fn run_on(setup: Setup, lines: Reader, sheet: &mut Vec<u8>) -> Result<Rig, Fault
     Ok(rig)
 }
 
-fn call_line(sheet: &mut Vec<u8>, call: Call, answer: Answer) {
+/// The line of a call.
+pub fn call_line(sheet: &mut Vec<u8>, call: Call, answer: Answer) {
     let (number, value) = returned(answer);
     sheet.extend_from_slice(&[letter(call.action), b'\t']);
     unsigned(sheet, call.head.into());
-    // A returned number of a scenario has one digit.
-    sheet.extend_from_slice(&[b'\t', b'0' + number, b'\t']);
+    sheet.push(b'\t');
+    unsigned(sheet, number.into());
+    sheet.push(b'\t');
     match value {
         Some(value) => signed(sheet, value),
         None => sheet.push(b'-'),
     }
     sheet.push(b'\n');
+}
+
+/// The lines of all cells, as they are now.
+pub fn cell_lines(sheet: &mut Vec<u8>, rig: &Rig) {
+    for (cell, &word) in rig.cells().iter().enumerate() {
+        sheet.extend_from_slice(b"cell\t");
+        unsigned(sheet, cell as u64);
+        sheet.push(b'\t');
+        signed(sheet, word.into());
+        sheet.push(b'\n');
+    }
 }
 
 fn fault_line(sheet: &mut Vec<u8>, fault: Fault) {
@@ -104,6 +111,8 @@ pub fn returned(answer: Answer) -> (u8, Option<i64>) {
             Refusal::Aborted(cause) => (6, Some(cause as i64)),
             Refusal::Locked => (7, None),
             Refusal::Full => (8, None),
+            Refusal::NoMoreTransactions => (9, None),
+            Refusal::NoMoreAttempts => (10, None),
         },
     }
 }
@@ -128,4 +137,20 @@ fn unsigned(sheet: &mut Vec<u8>, mut number: u64) {
         }
     }
     sheet.extend_from_slice(&digits[first..]);
+}
+
+#[cfg(test)]
+mod tests {
+    use super::*;
+
+    #[test]
+    fn a_returned_number_of_two_digits() {
+        let call = |action| Call { head: 1, action };
+        let mut sheet = Vec::new();
+        let refused = Err(Refusal::NoMoreTransactions);
+        call_line(&mut sheet, call(Action::Open), refused);
+        let refused = Err(Refusal::NoMoreAttempts);
+        call_line(&mut sheet, call(Action::Again), refused);
+        assert_eq!(sheet, b"o\t1\t9\t-\na\t1\t10\t-\n");
+    }
 }

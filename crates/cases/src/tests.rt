@@ -1,7 +1,7 @@
 // The case that is run: the last transaction of a rig.
 use parts::{LinesBoard, Margin, Mode, Plain};
 use rig::Rig;
-use rules::{Caller, Refusal, Slot};
+use rules::{Caller, Lists, Slot};
 use std::process::Abort;
 use std::test::Fail;
 
@@ -12,6 +12,11 @@ fn last_transaction(rt: HostRuntime) -> Result<(), Fail> {
     let cells = [0_i32];
     let reads = [slot; 32];
     let writes = [slot; 32];
+    let lists = Lists {
+        cells: &cells,
+        reads: &reads,
+        writes: &writes,
+    };
     let who = Caller {
         head: 0,
         transaction: None,
@@ -20,10 +25,10 @@ fn last_transaction(rt: HostRuntime) -> Result<(), Fail> {
         return Err(Fail::new("no rig"));
     };
     for _ in 0..60_000 {
-        assert!(rt; matches!(rig.open(who, &cells, &reads, &writes), Ok(Mode::Hardware)));
-        assert!(rt; rig.drop(who, &cells, &reads, &writes).is_ok());
+        assert!(rt; matches!(rig.open(who, lists), Ok(Mode::Hardware)));
+        assert!(rt; rig.drop(who, lists).is_ok());
     }
-    let refused = match rig.open(who, &cells, &reads, &writes) {
+    let refused = match rig.open(who, lists) {
         Ok(_) => 0,
         Err(refusal) => refusal.number(),
     };

@@ -1,2 +1,4 @@
 pub mod Growth
+pub mod Grows
 pub mod Lines
+pub mod Validations

@@ -1,99 +1,107 @@
 // A log as it is added to.
-ghost use Rattle.std.specs.Prelude.{◌≡◌, ◌≤◌, length, min, take};
+ghost use Rattle.std.specs.Prelude.{◌≡◌, ◌<◌, ◌≤◌, length, min, slice_set, take};
 ghost use Rattle.rules.specs.Logs.{put, note};
-ghost use Rattle.logs.specs.Growth.{place_of, Grown, grown, placed};
+ghost use Rattle.logs.specs.Growth.{Grown, room_in, grown, pushed};
 
+use crate::log::Log;
 use parts::Word;
-use rules::{Refusal, Slot};
+use rules::{Refusal, SLOTS, Slot};
 
-// A head's part of the slots, and how many of them its log has. Made in a function that is given the part alone: a
-// caller that makes one over a part of a longer list does not learn what the list then holds.
+/// A head's part of the slots as its log is added to: its log is the first of them, so many as its count says. Made in a
+/// function that is given the part alone: a caller that makes one over a part of a longer list does not learn what the list
+/// then holds.
 #[derive(Drop)]
 pub struct LogMut<'a, W> {
     part: &'a mut [Slot<W>],
     count: usize,
-    ghost within: { count ≤ length part.now },
+    ghost within: { count ≤ room_in part.now },
 }
 
-// The place for the cell among the first slots, so many: that of the lowest that names it, or the next free one.
-fn place_of<W: Word>(part: &[Slot<W>], count: usize, cell: u32) -> usize
-    requires { count ≤ length part.now }
-    ensures { result ≡ place_of cell (take count part.now) }
+// Replaces the slot at a place.
+fn replace<W: Word>(slots: &mut [Slot<W>], place: usize, slot: Slot<W>)
+    requires { place < length slots.old }
+    ensures { slots.new ≡ slice_set slots.old place slot }
 {
-    let mut place = 0;
-    for slot in &part[..count] {
-        if slot.cell == cell {
-            return place;
-        }
-        place += 1;
-    }
-    place
+    slots[place] = slot;
 }
 
 impl<'a, W: Word> LogMut<'a, W> {
-    // The log that is the first `count` slots of the part, or all of them.
+    ghost use Rattle.logs.specs.Grows.{part_in, log_in, grown_to, IsOver, StaysOver};
+
+    /// The log that is the first `count` slots of the part, as far as it can have so many.
     pub fn new(part: &'a mut [Slot<W>], count: u8) -> LogMut<'a, W>
-        ensures same_reference { result.part.ghost_name ≡ part.entry.ghost_name }
-        ensures part { result.part.now ≡ part.old }
-        ensures count { result.count ≡ min count (length part.old) }
+        ensures over { IsOver part.entry result }
+        ensures part { part_in result ≡ part.old }
+        ensures log { log_in result ≡ take (min count (room_in part.old)) part.old }
     {
-        let count = usize::from(count).min(part.len());
+        let count = usize::from(count).min(part.len()).min(SLOTS);
         LogMut { part, count }
     }
 
-    // How many slots the log has.
-    pub fn count(&self) -> usize
-        ensures { result ≡ self.now.count }
+    /// How many slots the log has.
+    pub fn len(&self) -> usize
+        ensures { result ≡ length (log_in self.now) }
     {
         self.count
     }
 
-    // Writes the slot at a place of the log, or at the one right behind it.
-    fn set_at(&mut self, place: usize, slot: Slot<W>) -> Result<(), Refusal>
-        ensures same_reference { self.new.part.ghost_name ≡ self.old.part.ghost_name }
-        ensures placed { ◌≡◌ {A = Grown W}
-            (record { answer = result; part = self.new.part.now; count = self.new.count })
-            (placed place slot self.old.part.now self.old.count) }
+    /// The log as it is looked into.
+    pub fn as_log(&self) -> Log<'_, W>
+        ensures { result ≡ log_in self.now }
     {
-        if place >= self.part.len() {
+        Log {
+            part: &*self.part,
+            count: self.count,
+        }
+    }
+
+    // Replaces the slot at a place of the log.
+    #[tactic(auto, using(crate::proofs::Placed::replaced))]
+    fn replace(&mut self, place: usize, slot: Slot<W>)
+        requires { place < self.old.count }
+        ensures over { StaysOver self.old self.new }
+        ensures part { part_in self.new ≡ slice_set (part_in self.old) place slot }
+        ensures count { self.new.count ≡ self.old.count }
+    {
+        replace(&mut self.part[..self.count], place, slot);
+    }
+
+    // Adds a slot behind those of the log.
+    fn push(&mut self, slot: Slot<W>) -> Result<(), Refusal>
+        ensures over { StaysOver self.old self.new }
+        ensures pushed { grown_to result self.new ≡ pushed slot (part_in self.old) self.old.count }
+    {
+        if self.count >= self.part.len().min(SLOTS) {
             return Err(Refusal::Full);
         }
-        self.part[place] = slot;
-        self.count = self.count.max(place + 1);
+        self.part[self.count] = slot;
+        self.count += 1;
         Ok(())
     }
 
-    // The place for the cell: of the lowest slot of the log that names it, or the next free one.
-    fn place_for(&self, cell: u32) -> usize
-        ensures place { result ≡ place_of cell (take self.now.count self.now.part.now) }
-    {
-        place_of(self.part, self.count, cell)
-    }
-
-    // Replaces the cell's slot, or adds one.
-    #[tactic(auto, using(crate::proofs::Placed::put_placed))]
+    /// Replaces the cell's slot, or adds one. Refused with `Full` where that needs a slot and there is none.
     pub fn put(&mut self, cell: u32, word: W) -> Result<(), Refusal>
-        ensures same_reference { self.new.part.ghost_name ≡ self.old.part.ghost_name }
-        ensures grown { ◌≡◌ {A = Grown W}
-            (record { answer = result; part = self.new.part.now; count = self.new.count })
-            (grown cell (put cell word (take self.old.count self.old.part.now)) self.old.part.now self.old.count) }
+        ensures over { StaysOver self.old self.new }
+        ensures grown { grown_to result self.new ≡ grown cell (put cell word (log_in self.old)) (log_in self.old) (part_in self.old) }
     {
-        let place = self.place_for(cell);
-        self.set_at(place, Slot { cell, word })
+        let slot = Slot { cell, word };
+        match self.as_log().place_of(cell) {
+            Some(place) => {
+                self.replace(place, slot);
+                Ok(())
+            }
+            None => self.push(slot),
+        }
     }
 
-    // Adds a slot, unless the log has one for the cell.
-    #[tactic(auto, using(crate::proofs::Placed::note_named, crate::proofs::Placed::note_placed))]
+    /// Adds a slot, unless the log has one for the cell. Refused with `Full` where that needs a slot and there is none.
     pub fn note(&mut self, cell: u32, word: W) -> Result<(), Refusal>
-        ensures same_reference { self.new.part.ghost_name ≡ self.old.part.ghost_name }
-        ensures grown { ◌≡◌ {A = Grown W}
-            (record { answer = result; part = self.new.part.now; count = self.new.count })
-            (grown cell (note cell word (take self.old.count self.old.part.now)) self.old.part.now self.old.count) }
+        ensures over { StaysOver self.old self.new }
+        ensures grown { grown_to result self.new ≡ grown cell (note cell word (log_in self.old)) (log_in self.old) (part_in self.old) }
     {
-        let place = self.place_for(cell);
-        if place < self.count {
-            return Ok(());
+        match self.as_log().place_of(cell) {
+            Some(_) => Ok(()),
+            None => self.push(Slot { cell, word }),
         }
-        self.set_at(place, Slot { cell, word })
     }
 }

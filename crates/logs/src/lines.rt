@@ -14,7 +14,7 @@ fn either_touches<W: Word, B: Board>(
     other: &Log<'_, W>,
 ) -> bool
     ensures { result
-        ≡ (touches (B.Board.line board.now) line one.now.slots.now || touches (B.Board.line board.now) line other.now.slots.now) }
+        ≡ (touches (B.Board.line board.now) line one.now || touches (B.Board.line board.now) line other.now) }
 {
     one.touches(board, line) || other.touches(board, line)
 }
@@ -29,14 +29,14 @@ fn is_new<W: Word, B: Board>(
     from: usize,
     other: &Log<'_, W>,
 ) -> bool
-    requires { Marked (B.Board.line board.now) marks.now (drop from log.now.slots.now ++ other.now.slots.now) }
+    requires { Marked (B.Board.line board.now) marks.now (drop from log.now ++ other.now) }
     ensures { result
-        ≡ not (touches (B.Board.line board.now) line (drop from log.now.slots.now) || touches (B.Board.line board.now) line other.now.slots.now) }
+        ≡ not (touches (B.Board.line board.now) line (drop from log.now) || touches (B.Board.line board.now) line other.now) }
 {
     if !marks[(line % 64) as usize] {
         return true;
     }
-    !either_touches(board, line, &log.part(from, log.len()), other)
+    !either_touches(board, line, &log.range(from, log.len()), other)
 }
 
 // Adds to `count`, the number of lines of the other log, the lines of this one that are not among them, and marks them.
@@ -47,17 +47,18 @@ fn count_beside<W: Word, B: Board>(
     count: u16,
     marks: &mut [bool; 64],
 ) -> u16
-    requires counted { count ≡ distinct_count (lines_of (B.Board.line board.now) other.now.slots.now) }
-    requires marked { Marked (B.Board.line board.now) marks.old other.now.slots.now }
+    requires counted { count ≡ distinct_count (lines_of (B.Board.line board.now) other.now) }
+    requires marked { Marked (B.Board.line board.now) marks.old other.now }
     requires few { count ≤ 255 }
-    ensures count { result ≡ distinct_count (lines_of (B.Board.line board.now) (log.now.slots.now ++ other.now.slots.now)) }
-    ensures marked { Marked (B.Board.line board.now) marks.new (log.now.slots.now ++ other.now.slots.now) }
-    ensures bound { result ≤ count + length log.now.slots.now }
+    ensures count { result ≡ distinct_count (lines_of (B.Board.line board.now) (log.now ++ other.now)) }
+    ensures marked { Marked (B.Board.line board.now) marks.new (log.now ++ other.now) }
+    ensures bound { result ≤ count + 255 }
 {
     let mut count = count;
-    let mut left = log.len();
+    let slots = log.slots();
+    let mut left = slots.len();
     while left > 0 {
-        let line = board.line(log.slots[left - 1].cell);
+        let line = board.line(slots[left - 1].cell);
         if is_new(board, line, marks, log, left, other) {
             count += 1;
         }
@@ -74,25 +75,25 @@ fn count_lines<W: Word, B: Board>(
     writes: &Log<'_, W>,
     marks: &mut [bool; 64],
 ) -> u16
-    ensures count { result ≡ lines_touched (B.Board.line board.now) reads.now.slots.now writes.now.slots.now }
-    ensures marked { Marked (B.Board.line board.now) marks.new (reads.now.slots.now ++ writes.now.slots.now) }
+    ensures count { result ≡ lines_touched (B.Board.line board.now) reads.now writes.now }
+    ensures marked { Marked (B.Board.line board.now) marks.new (reads.now ++ writes.now) }
     ensures bound { result ≤ 510 }
 {
-    let none = writes.part(0, 0);
+    let none = writes.range(0, 0);
     let count = count_beside(board, writes, &none, 0, marks);
     count_beside(board, reads, writes, count, marks)
 }
 
-// The number of different lines among the cells of both logs.
+/// The number of different lines among the cells of both logs.
 pub fn lines_touched<W: Word, B: Board>(board: &B, reads: &Log<'_, W>, writes: &Log<'_, W>) -> u16
-    ensures count { result ≡ lines_touched (B.Board.line board.now) reads.now.slots.now writes.now.slots.now }
+    ensures count { result ≡ lines_touched (B.Board.line board.now) reads.now writes.now }
     ensures bound { result ≤ 510 }
 {
     let mut marks = [false; 64];
     count_lines(board, reads, writes, &mut marks)
 }
 
-// The same with one cell more, as a read of it would touch it.
+/// The same with one cell more, as a read of it would touch it.
 #[tactic(auto, using(crate::proofs::Counted::one_more, crate::proofs::Counted::none_more))]
 pub fn lines_touched_with<W: Word, B: Board>(
     board: &B,
@@ -100,7 +101,7 @@ pub fn lines_touched_with<W: Word, B: Board>(
     reads: &Log<'_, W>,
     writes: &Log<'_, W>,
 ) -> u16
-    ensures { result ≡ lines_touched_with (B.Board.line board.now) cell reads.now.slots.now writes.now.slots.now }
+    ensures { result ≡ lines_touched_with (B.Board.line board.now) cell reads.now writes.now }
 {
     let mut marks = [false; 64];
     let lines = count_lines(board, reads, writes, &mut marks);

@@ -1,17 +1,20 @@
 // Value-based validation, for every kind of word.
-ghost use Rattle.std.specs.Prelude.{◌≡◌, ◌≤◌, length, map, nat_lt, if◌then◌else◌};
-ghost use Rattle.std.specs.List.{list_all, prefix_len};
-ghost use Rattle.rules.specs.Logs.{holds, cells_loaded};
+ghost use Rattle.std.specs.Prelude.{◌≡◌, ◌≤◌, length, nat_lt, if◌then◌else◌};
+ghost use Rattle.std.specs.List.{prefix_len};
+ghost use Rattle.rules.specs.Logs.{holds};
+ghost use Rattle.logs.specs.Validations.{Validated};
 
 use crate::log::Log;
 use parts::Word;
 use rules::Slot;
 
-// What validation finds: slots with the cells that it has loaded, and whether every cell holds its slot's word still.
+/// What validation finds, with the slots whose cells it has loaded.
 #[derive(Drop)]
-pub struct Validation<'a, W> {
-    pub loaded: Log<'a, W>,
-    pub valid: bool,
+pub enum Validation<'a, W> {
+    /// every cell holds its slot's word still
+    Valid(Log<'a, W>),
+    /// a cell holds another word than the one that was read
+    Changed(Log<'a, W>),
 }
 
 // Whether the slot's cell holds the slot's word; a cell that is not there does not.
@@ -26,10 +29,10 @@ fn holds<W: Word>(cells: &[W], slot: &Slot<W>) -> bool
 
 // How many slots of the log come before the first whose cell does not hold its word.
 fn unchanged<W: Word>(cells: &[W], log: &Log<'_, W>) -> usize
-    ensures { result ≡ prefix_len (holds W.Word.same cells.now) log.now.slots.now }
+    ensures { result ≡ prefix_len (holds W.Word.same cells.now) log.now }
 {
     let mut count = 0;
-    for slot in log.slots {
+    for slot in log.slots() {
         if !holds(cells, slot) {
             return count;
         }
@@ -50,24 +53,16 @@ fn cells_there<W: Word>(cells: &[W], slot: &Slot<W>) -> usize
     }
 }
 
-// Takes the log in order, and stops at the first slot whose cell does not hold its word. A cell that is not there is
-// not loaded.
+/// Takes the log in order, and stops at the first slot whose cell does not hold its word. A cell that is not there is
+/// not loaded.
 #[tactic(auto, using(crate::proofs::Validated::all_hold, crate::proofs::Validated::all_loaded, crate::proofs::Validated::some_changed, crate::proofs::Validated::first_loaded))]
 pub fn validate<'a, W: Word>(cells: &[W], log: &Log<'a, W>) -> Validation<'a, W>
-    ensures valid { result.valid ≡ list_all (holds W.Word.same cells.now) log.now.slots.now }
-    ensures loaded { map (λ s. s.cell) result.loaded.slots.now
-        ≡ cells_loaded W.Word.same cells.now log.now.slots.now }
+    ensures { Validated W.Word.same cells.now log.now result }
 {
     let held = unchanged(cells, log);
     if held >= log.len() {
-        return Validation {
-            loaded: log.part(0, held),
-            valid: true,
-        };
+        return Validation::Valid(log.range(0, held));
     }
-    let there = cells_there(cells, &log.slots[held]);
-    Validation {
-        loaded: log.part(0, held + there),
-        valid: false,
-    }
+    let there = cells_there(cells, &log.slots()[held]);
+    Validation::Changed(log.range(0, held + there))
 }

@@ -1,16 +1,17 @@
 -- A write, put together from its steps.
-use Rattle.std.proofs.Common.{◌≡◌, ℕ, ◌+◌, ◌*◌, ◌≤◌, true, false, cond, not, ◌&&◌, eqb, List, [], ◌∷◌, ◌++◌, length, set, Ok, Err, Option, sym, refl, ap, ◌∙◌, subst, All, arith}
+use Rattle.std.proofs.Common.{◌≡◌, ℕ, ◌+◌, ◌*◌, ◌≤◌, true, false, cond, not, ◌&&◌, eqb, leb, List, [], ◌∷◌, ◌++◌, length, set, Ok, Err, Some, None, Option, sym, refl, ap, ◌∙◌, subst, All, arith}
 use Rattle.std.proofs.lemmas.Bool.{eqb-false}
 use Rattle.std.proofs.lemmas.List.{take_all}
 use Rattle.parts.specs.declared.types.Cause.TheVariants.{Capacity, Conflict}
 use Rattle.parts.specs.declared.calls.Call.TheVariants.{Write}
 use Rattle.rules.specs.declared.types.Caller.{Caller}
+use Rattle.rules.specs.declared.limits.TheConstants.{SLOTS}
 use Rattle.rules.specs.declared.types.Head.{Head}
 use Rattle.rules.specs.declared.types.Slot.{Slot}
 use Rattle.rules.specs.declared.types.Refusal.{Refusal}
 use Rattle.rules.specs.declared.types.Refusal.TheVariants as refuse
 use Rattle.rules.specs.Kit.{Memory}
-use Rattle.rules.specs.Logs.{put, lacks_room_for, lines_of, distinct_count, log_of, slots_with}
+use Rattle.rules.specs.Logs.{put, word_for, lacks_room_for, lines_of, distinct_count, log_of, slots_with}
 use Rattle.rules.specs.Heads.{abort, is_hardware, stores_after}
 use Rattle.rules.specs.Bounds.{HeadBounds}
 use Rattle.rules.specs.Bench.{Bench, bench, head_at, abort_if_hit, hit_by_store, after_store}
@@ -23,7 +24,7 @@ use Rattle.rules.specs.declared.types.State.{State}
 use Rattle.rules.specs.declared.types.State.TheVariants.{WritingBack}
 use Rattle.rules.specs.Heads.{is_software, is_writing_back}
 use Rattle.std.specs.Prelude.{◌||◌}
-use Rattle.rules.proofs.LogLaws.{length-log, few-put}
+use Rattle.rules.proofs.LogLaws.{length-log, few-put, word_none, word_some}
 use Rattle.rules.proofs.Laid.{log-laid-own, log-laid-other}
 use Rattle.rig.specs.Admission.{Admits}
 use Rattle.rig.specs.Stores.{stored}
@@ -114,3 +115,26 @@ module _ {W : Type 0} (memory : Memory W) (b : Bench W) (who : Caller) (c : ℕ)
       let le = adm.bounds.writes in
       let few : length new ≤ 32 = few-put c w (wlog me) (omega (arith, short, le)) room in
       subst HeadBounds (sym eh) (write-bounds me adm.bounds n (omega (arith, few, en)) (not-back me.state adm.taken))
+
+  -- in software, put and no more
+  pub write_software : (h : Head) (n : ℕ) (ws : List (Slot W)) → lacks_room_for c (wlog me) ≡ false → is_hardware me.state ≡ false
+      → n ≡ length new → h ≡ wrote me n → ws ≡ slots_with k new b.writes
+      → outcome (Ok tt) (bench (record b.table { heads = set b.table.heads k h }) b.cells b.reads ws) ≡ write_of memory b who c w
+  write_software h n ws room soft en eh ew =
+      ap (λ x. outcome (Ok tt) (bench (record b.table { heads = set b.table.heads k h }) b.cells b.reads x)) ew
+      ∙ ap (λ x. outcome (Ok tt) (bench (record b.table { heads = set b.table.heads k x }) b.cells b.reads (slots_with k new b.writes))) (eh ∙ ap (wrote me) en)
+      ∙ sym (write-is ∙ rw (room, soft) refl)
+
+  pub write_full : lacks_room_for c (wlog me) ≡ true → outcome (Err refuse.Full) b ≡ write_of memory b who c w
+  write_full full = sym (write-is ∙ rw full refl)
+
+-- what a look-up tells of the room for a cell
+module _ {W : Type 0} (c : ℕ) where
+  pub room_known : (v : W) (log : List (Slot W)) → word_for c log ≡ Some v → lacks_room_for c log ≡ false
+  room_known v log e = rw (word_some c v log e) refl
+
+  pub room_free : (log : List (Slot W)) → word_for c log ≡ None → leb SLOTS (length log) ≡ false → lacks_room_for c log ≡ false
+  room_free log e short = rw (word_none c log e) short
+
+  pub room_none : (log : List (Slot W)) → word_for c log ≡ None → leb SLOTS (length log) ≡ true → lacks_room_for c log ≡ true
+  room_none log e long = rw (word_none c log e) long

@@ -1,3 +1,6 @@
 pub mod Accesses
 pub mod Admission
+pub mod Rigs
 pub mod Stores
+pub mod Transitions
+pub mod Validations

@@ -2,10 +2,11 @@
 ghost use Rattle.std.specs.Prelude.{◌≡◌, ◌<◌, ◌&&◌};
 ghost use Rattle.rules.specs.Bench.{present_snapshot, is_odd};
 ghost use Rattle.rules.specs.Bounds.{HeadBounds};
-ghost use Rattle.rules.specs.Heads.{abort, begin, with_transaction, empty_logs, next_mode, is_hardware, is_software};
+ghost use Rattle.rules.specs.declared.types.State.TheVariants.{Aborted};
+ghost use Rattle.rules.specs.Heads.{abort, begin, with_transaction, empty_logs, next_mode, is_hardware, is_software, state_in};
 
 use parts::{Cause, Mode, Policy};
-use rules::{Head, Snapshot, State, Table};
+use rules::{Head, MOST_ATTEMPTS, Snapshot, State, Table};
 
 // The snapshot that an attempt takes now.
 pub(crate) fn present_snapshot(table: &Table) -> Snapshot
@@ -31,11 +32,11 @@ pub(crate) fn is_hardware(head: Head) -> bool
     matches!(head.state, State::Hardware)
 }
 
-// Whether the head is in software, and has to wait for a commit that writes back.
-pub(crate) fn must_wait(table: &Table, head: Head) -> bool
-    ensures { result ≡ (is_software head.state && is_odd table.now.sequence) }
+// Whether an attempt is in software, and has to wait for a commit that writes back.
+pub(crate) fn must_wait(table: &Table, mode: Mode) -> bool
+    ensures { result ≡ (is_software (state_in mode) && is_odd table.now.sequence) }
 {
-    matches!(head.state, State::Software) && is_locked(table)
+    matches!(mode, Mode::Software) && is_locked(table)
 }
 
 // With both logs emptied.
@@ -79,7 +80,7 @@ pub(crate) fn with_transaction(head: Head, number: u32) -> Head
 
 // The head at the start of an attempt: a software one takes the snapshot.
 pub(crate) fn begin(head: Head, mode: Mode, present: Snapshot) -> Head
-    requires { head.attempts < 70000 }
+    requires { head.attempts < MOST_ATTEMPTS }
     ensures { result ≡ begin mode present head }
 {
     let (state, snapshot) = match mode {
@@ -95,13 +96,12 @@ pub(crate) fn begin(head: Head, mode: Mode, present: Snapshot) -> Head
     }
 }
 
-// How the next attempt runs: a change ends only software attempts, so there is nothing to ask then.
-pub(crate) fn next_mode<P: Policy>(policy: &P, state: State, aborts: u32) -> Mode
-    ensures { result ≡ next_mode (P.Policy.next policy.now) aborts state }
+// How the next attempt of a head runs that has aborted: a change ends only software attempts, so there is nothing to ask then.
+pub(crate) fn next_mode<P: Policy>(policy: &P, after: Cause, aborts: u32) -> Mode
+    ensures { result ≡ next_mode (P.Policy.next policy.now) aborts (Aborted after) }
 {
-    match state {
-        State::Aborted(Cause::Changed) => Mode::Software,
-        State::Aborted(cause) => policy.next(cause, aborts),
-        _ => Mode::Software,
+    match after {
+        Cause::Changed => Mode::Software,
+        _ => policy.next(after, aborts),
     }
 }

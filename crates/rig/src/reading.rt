@@ -9,14 +9,14 @@ ghost use Rattle.rules.specs.Logs.{lacks_room_for, lines_touched_with, log_of};
 ghost use Rattle.rig.specs.Admission.{Admits};
 ghost use Rattle.rules.specs.Kit.{memory_of};
 
-use crate::admission::admit;
-use crate::heads::{abort, is_hardware, must_wait, present_snapshot};
+use crate::admission::{Admitted, Transition, admit};
+use crate::heads::{abort, must_wait, present_snapshot};
 use crate::noting::note_word;
 use crate::sweeps::{Loads, abort_hit};
 use crate::validation::revalidate;
-use logs::{Log, lines_touched_with};
-use parts::{Board, Call, Cause, Word};
-use rules::{Caller, Head, Refusal, Slot, Table};
+use logs::{Log, Validation, lines_touched_with};
+use parts::{Board, Call, Cause, Mode, Word};
+use rules::{Caller, Head, Lists, Refusal, Slot, Table};
 
 // Whether the head's attempt fits with the cell's line touched too.
 fn fits_with<B: Board, W: Word>(
@@ -24,14 +24,13 @@ fn fits_with<B: Board, W: Word>(
     head: u32,
     me: Head,
     cell: u32,
-    reads: &[Slot<W>],
-    writes: &[Slot<W>],
+    lists: Lists<'_, W>,
 ) -> bool
     ensures { result
-        ≡ B.Board.fits board.now me.stores (lines_touched_with (B.Board.line board.now) cell (log_of head me.read_count reads.now) (log_of head me.write_count writes.now)) }
+        ≡ B.Board.fits board.now me.stores (lines_touched_with (B.Board.line board.now) cell (log_of head me.read_count lists.entry.reads.now) (log_of head me.write_count lists.entry.writes.now)) }
 {
-    let read_log = Log::of_head(reads, head, me.read_count);
-    let write_log = Log::of_head(writes, head, me.write_count);
+    let read_log = Log::of_head(lists.reads, head, me.read_count);
+    let write_log = Log::of_head(lists.writes, head, me.write_count);
     board.fits(
         me.stores,
         lines_touched_with(board, cell, &read_log, &write_log),
@@ -56,7 +55,12 @@ fn read_in_hardware<B: Board, W: Word>(
         slice_get cells.now cell ≡ Some w → outcome result (bench table.new cells.now reads.new writes.now)
         ≡ hardware_read (memory_of W.Word B.Board board.now) (bench table.old cells.now reads.old writes.now) who.head cell w }
 {
-    if !fits_with(board, who.head, me, cell, reads, writes) {
+    let lists = Lists {
+        cells,
+        reads,
+        writes,
+    };
+    if !fits_with(board, who.head, me, cell, lists) {
         table.heads[who.head as usize] = abort(me, Cause::Capacity);
         return Err(Refusal::Aborted(Cause::Capacity));
     }
@@ -64,18 +68,11 @@ fn read_in_hardware<B: Board, W: Word>(
         log: Log::of_head(reads, who.head, 0),
         cell: Some(cell),
     };
-    abort_hit(&mut table.heads, who.head, board, &access, reads, writes);
+    abort_hit(&mut table.heads, who.head, board, &access, lists);
     let word = cells[cell as usize];
     let read_count = note_word(reads, who.head, me.read_count, cell, word);
     table.heads[who.head as usize] = Head { read_count, ..me };
     Ok(word)
-}
-
-// The cell, to be loaded only if validation has found no change.
-fn loaded_if(valid: bool, cell: u32) -> Option<u32>
-    ensures { result ≡ (if valid then Some cell else None) }
-{
-    if valid { Some(cell) } else { None }
 }
 
 // Reads the cell and notes its word; in software, if what was read before is still valid.
@@ -96,25 +93,38 @@ fn read_in_software<B: Board, W: Word>(
         slice_get cells.now cell ≡ Some w → outcome result (bench table.new cells.now reads.new writes.now)
         ≡ software_read (memory_of W.Word B.Board board.now) (bench table.old cells.now reads.old writes.now) who.head cell w }
 {
-    let found = revalidate(table, who.head, cells, reads);
-    let access = Loads {
-        log: found.loaded,
-        cell: loaded_if(found.valid, cell),
+    let lists = Lists {
+        cells,
+        reads,
+        writes,
     };
-    abort_hit(&mut table.heads, who.head, board, &access, reads, writes);
-    if !found.valid {
-        table.heads[who.head as usize] = abort(me, Cause::Changed);
-        return Err(Refusal::Aborted(Cause::Changed));
+    match revalidate(table, who.head, lists) {
+        Validation::Changed(loaded) => {
+            let access = Loads {
+                log: loaded,
+                cell: None,
+            };
+            abort_hit(&mut table.heads, who.head, board, &access, lists);
+            table.heads[who.head as usize] = abort(me, Cause::Changed);
+            Err(Refusal::Aborted(Cause::Changed))
+        }
+        Validation::Valid(loaded) => {
+            let access = Loads {
+                log: loaded,
+                cell: Some(cell),
+            };
+            abort_hit(&mut table.heads, who.head, board, &access, lists);
+            let snapshot = present_snapshot(table);
+            let word = cells[cell as usize];
+            let read_count = note_word(reads, who.head, me.read_count, cell, word);
+            table.heads[who.head as usize] = Head {
+                read_count,
+                snapshot,
+                ..me
+            };
+            Ok(word)
+        }
     }
-    let snapshot = present_snapshot(table);
-    let word = cells[cell as usize];
-    let read_count = note_word(reads, who.head, me.read_count, cell, word);
-    table.heads[who.head as usize] = Head {
-        read_count,
-        snapshot,
-        ..me
-    };
-    Ok(word)
 }
 
 // The word that the head's write log has for the cell, or else the cell's.
@@ -131,21 +141,31 @@ pub(crate) fn read<B: Board, W: Word>(
     ensures { outcome result (bench table.new cells.now reads.new writes.now)
         ≡ read_of (memory_of W.Word B.Board board.now) (bench table.old cells.now reads.old writes.now) who cell }
 {
-    let me = admit(table, who, Call::Read(cell), cells, reads, writes)?;
+    let lists = Lists {
+        cells,
+        reads,
+        writes,
+    };
+    let Admitted {
+        head: me,
+        transition,
+    } = admit(table, who, Call::Read(cell), lists)?;
+    let Transition::Read { mode, cell } = transition else {
+        unreachable!();
+    };
     let write_log = Log::of_head(writes, who.head, me.write_count);
     if let Some(word) = write_log.word_for(cell) {
         return Ok(word);
     }
-    if must_wait(table, me) {
+    if must_wait(table, mode) {
         return Err(Refusal::Busy);
     }
     let read_log = Log::of_head(reads, who.head, me.read_count);
     if read_log.lacks_room_for(cell) {
         return Err(Refusal::Full);
     }
-    if is_hardware(me) {
-        read_in_hardware(table, board, who, me, cell, cells, reads, writes)
-    } else {
-        read_in_software(table, board, who, me, cell, cells, reads, writes)
+    match mode {
+        Mode::Hardware => read_in_hardware(table, board, who, me, cell, cells, reads, writes),
+        Mode::Software => read_in_software(table, board, who, me, cell, cells, reads, writes),
     }
 }

@@ -1,11 +1,9 @@
 // The rig and its public calls.
-ghost use Rattle.std.specs.Prelude.{◌≡◌, IfErr, IfOk, Ok, Err};
+ghost use Rattle.std.specs.Prelude.{◌≡◌};
 ghost use Rattle.parts.specs.declared.types.Mode.{Mode as Modes};
-ghost use Rattle.rules.specs.Kit.{kit_of};
-ghost use Rattle.rules.specs.Bench.{bench, head_of};
 ghost use Rattle.rules.specs.Bounds.{InBounds};
 ghost use Rattle.rules.specs.Refusals.{lengths_match};
-ghost use Rattle.rules.specs.Calls.{outcome, set_up, open_of, push_of, jolt_of, drop_of};
+ghost use Rattle.rules.specs.Calls.{outcome, open_of, push_of, jolt_of, drop_of};
 ghost use Rattle.rules.specs.Calls.{read_of, write_of, close_of, again_of};
 
 use crate::admission::lengths_match;
@@ -14,10 +12,10 @@ use crate::reading::read;
 use crate::simple::{again, cancel, jolt, open};
 use crate::write_back::push;
 use crate::writing::write;
-use parts::{Board, Mode, Policy, Word};
-use rules::{Caller, Closing, Head, Refusal, Slot, Snapshot, State, Table};
+use parts::{Board, Mode, Policy, Size, Word};
+use rules::{Caller, Closing, Head, Lists, RECORDS, Refusal, Slot, Snapshot, State, Table};
 
-// A rig: a board, a policy, and a table that is always in bounds, so that no number it counts runs over.
+/// A rig: a board, a policy, and a table that is always in bounds, so that no number it counts runs over.
 #[derive(Drop)]
 pub struct Rig<B, P> {
     board: B,
@@ -27,18 +25,12 @@ pub struct Rig<B, P> {
 }
 
 impl<B: Board, P: Policy> Rig<B, P> {
-    // A rig whose heads are idle: 1 to 8 heads, and 1 to 1,024 cells.
-    pub fn set_up(heads: u32, cells: u32, board: B, policy: P) -> Result<Rig<B, P>, Refusal>
-    where
-        B: Drop,
-        P: Drop,
-        ensures table { IfOk result (λ rig. set_up heads cells ≡ Ok rig.table) }
-        ensures parts { IfOk result (λ rig. (rig.board ≡ board) × (rig.policy ≡ policy)) }
-        ensures refused { IfErr result (λ e. set_up heads cells ≡ Err e) }
+    ghost use Rattle.rig.specs.Rigs.{rig_bench, rig_bench_with, rig_kit, head_in, Kept, IsNew, SetUpAs};
+
+    /// A rig of this size: its heads are idle, and every number is 0.
+    pub fn new(size: Size, board: B, policy: P) -> Rig<B, P>
+        ensures { IsNew size.heads size.cells board policy result }
     {
-        if !(1..=8).contains(&heads) || !(1..=1024).contains(&cells) {
-            return Err(Refusal::OutOfRange);
-        }
         let head = Head {
             state: State::Idle,
             transaction: 0,
@@ -54,23 +46,36 @@ impl<B: Board, P: Policy> Rig<B, P> {
             },
         };
         let table = Table {
-            heads: [head; 8],
-            head_count: heads,
-            cell_count: cells,
+            heads: [head; RECORDS],
+            head_count: size.heads,
+            cell_count: size.cells,
             sequence: 0,
             commits: 0,
             opened: 0,
         };
-        Ok(Rig {
+        Rig {
             board,
             policy,
             table,
-        })
+        }
     }
 
-    // What the rig keeps of a head, if there is such a head.
+    /// A rig of so many heads and cells, or `OutOfRange` (11) where no rig has so many.
+    pub fn set_up(heads: u32, cells: u32, board: B, policy: P) -> Result<Rig<B, P>, Refusal>
+    where
+        B: Drop,
+        P: Drop,
+        ensures { SetUpAs heads cells board policy result }
+    {
+        match Size::new(heads, cells) {
+            Some(size) => Ok(Rig::new(size, board, policy)),
+            None => Err(Refusal::OutOfRange),
+        }
+    }
+
+    /// What the rig keeps of a head, if there is such a head.
     pub fn head(&self, head: u32) -> Option<Head>
-        ensures { result ≡ head_of self.now.table head }
+        ensures { result ≡ head_in self.now head }
     {
         if head < self.table.head_count {
             Some(self.table.heads[head as usize])
@@ -79,31 +84,23 @@ impl<B: Board, P: Policy> Rig<B, P> {
         }
     }
 
-    // Whether the lists have the right lengths: with others every call is refused.
-    pub fn lists_match<W: Word>(&self, cells: &[W], reads: &[Slot<W>], writes: &[Slot<W>]) -> bool
-        ensures { result ≡ lengths_match (bench self.now.table cells.now reads.now writes.now) }
+    /// Whether the lists have the right lengths: with others every call is refused.
+    pub fn lists_match<W: Word>(&self, lists: Lists<'_, W>) -> bool
+        ensures { result ≡ lengths_match (rig_bench_with self.now lists.entry) }
     {
-        lengths_match(&self.table, cells, reads, writes)
+        lengths_match(&self.table, lists)
     }
 
-    // Begins a transaction of an idle head, in hardware.
-    pub fn open<W: Word>(
-        &mut self,
-        who: Caller,
-        cells: &[W],
-        reads: &[Slot<W>],
-        writes: &[Slot<W>],
-    ) -> Result<Mode, Refusal>
-        ensures outcome { outcome result (bench self.new.table cells.now reads.now writes.now)
-            ≡ open_of (bench self.old.table cells.now reads.now writes.now) who }
-        ensures lengths { lengths_match (bench self.new.table cells.now reads.now writes.now)
-            ≡ lengths_match (bench self.old.table cells.now reads.now writes.now) }
-        ensures kept { (self.new.board ≡ self.old.board) × (self.new.policy ≡ self.old.policy) }
+    /// Begins a transaction of an idle head, in hardware.
+    pub fn open<W: Word>(&mut self, who: Caller, lists: Lists<'_, W>) -> Result<Mode, Refusal>
+        ensures outcome { outcome result (rig_bench_with self.new lists.entry)
+            ≡ open_of (rig_bench_with self.old lists.entry) who }
+        ensures kept { Kept self.old self.new (rig_bench_with self.old lists.entry) (rig_bench_with self.new lists.entry) }
     {
-        open(&mut self.table, who, cells, reads, writes)
+        open(&mut self.table, who, lists)
     }
 
-    // Reads a cell: the word that the transaction has written there, or else the cell's.
+    /// Reads a cell: the word that the transaction has written there, or else the cell's.
     pub fn read<W: Word>(
         &mut self,
         who: Caller,
@@ -112,12 +109,10 @@ impl<B: Board, P: Policy> Rig<B, P> {
         reads: &mut [Slot<W>],
         writes: &[Slot<W>],
     ) -> Result<W, Refusal>
-        ensures outcome { let kit = kit_of W.Word B.Board P.Policy self.old.board self.old.policy in
-            let before = bench self.old.table cells.now reads.old writes.now in
-            outcome result (bench self.new.table cells.now reads.new writes.now) ≡ read_of kit.memory before who cell }
-        ensures lengths { lengths_match (bench self.new.table cells.now reads.new writes.now)
-            ≡ lengths_match (bench self.old.table cells.now reads.old writes.now) }
-        ensures kept { (self.new.board ≡ self.old.board) × (self.new.policy ≡ self.old.policy) }
+        ensures outcome { let kit = rig_kit W.Word B.Board P.Policy self.old in
+            let before = rig_bench self.old cells.now reads.old writes.now in
+            outcome result (rig_bench self.new cells.now reads.new writes.now) ≡ read_of kit.memory before who cell }
+        ensures kept { Kept self.old self.new (rig_bench self.old cells.now reads.old writes.now) (rig_bench self.new cells.now reads.new writes.now) }
     {
         read(
             &mut self.table,
@@ -130,7 +125,7 @@ impl<B: Board, P: Policy> Rig<B, P> {
         )
     }
 
-    // Writes a word to a cell, into the write log.
+    /// Writes a word to a cell, into the write log.
     pub fn write<W: Word>(
         &mut self,
         who: Caller,
@@ -140,12 +135,10 @@ impl<B: Board, P: Policy> Rig<B, P> {
         reads: &[Slot<W>],
         writes: &mut [Slot<W>],
     ) -> Result<(), Refusal>
-        ensures outcome { let kit = kit_of W.Word B.Board P.Policy self.old.board self.old.policy in
-            let before = bench self.old.table cells.now reads.now writes.old in
-            outcome result (bench self.new.table cells.now reads.now writes.new) ≡ write_of kit.memory before who cell word }
-        ensures lengths { lengths_match (bench self.new.table cells.now reads.now writes.new)
-            ≡ lengths_match (bench self.old.table cells.now reads.now writes.old) }
-        ensures kept { (self.new.board ≡ self.old.board) × (self.new.policy ≡ self.old.policy) }
+        ensures outcome { let kit = rig_kit W.Word B.Board P.Policy self.old in
+            let before = rig_bench self.old cells.now reads.now writes.old in
+            outcome result (rig_bench self.new cells.now reads.now writes.new) ≡ write_of kit.memory before who cell word }
+        ensures kept { Kept self.old self.new (rig_bench self.old cells.now reads.now writes.old) (rig_bench self.new cells.now reads.now writes.new) }
     {
         write(
             &mut self.table,
@@ -159,7 +152,7 @@ impl<B: Board, P: Policy> Rig<B, P> {
         )
     }
 
-    // Commits: the writes are in the cells at once, or are to be pushed.
+    /// Commits: the writes are in the cells at once, or are to be pushed.
     pub fn close<W: Word>(
         &mut self,
         who: Caller,
@@ -167,17 +160,15 @@ impl<B: Board, P: Policy> Rig<B, P> {
         reads: &[Slot<W>],
         writes: &[Slot<W>],
     ) -> Result<Closing, Refusal>
-        ensures outcome { let kit = kit_of W.Word B.Board P.Policy self.old.board self.old.policy in
-            let before = bench self.old.table cells.old reads.now writes.now in
-            outcome result (bench self.new.table cells.new reads.now writes.now) ≡ close_of kit.memory before who }
-        ensures lengths { lengths_match (bench self.new.table cells.new reads.now writes.now)
-            ≡ lengths_match (bench self.old.table cells.old reads.now writes.now) }
-        ensures kept { (self.new.board ≡ self.old.board) × (self.new.policy ≡ self.old.policy) }
+        ensures outcome { let kit = rig_kit W.Word B.Board P.Policy self.old in
+            let before = rig_bench self.old cells.old reads.now writes.now in
+            outcome result (rig_bench self.new cells.new reads.now writes.now) ≡ close_of kit.memory before who }
+        ensures kept { Kept self.old self.new (rig_bench self.old cells.old reads.now writes.now) (rig_bench self.new cells.new reads.now writes.now) }
     {
         close(&mut self.table, &self.board, who, cells, reads, writes)
     }
 
-    // Writes back the next slot of the write log, and gives the number of those that are left.
+    /// Writes back the next slot of the write log, and gives the number of those that are left.
     pub fn push<W: Word>(
         &mut self,
         who: Caller,
@@ -185,64 +176,38 @@ impl<B: Board, P: Policy> Rig<B, P> {
         reads: &[Slot<W>],
         writes: &[Slot<W>],
     ) -> Result<u8, Refusal>
-        ensures outcome { outcome result (bench self.new.table cells.new reads.now writes.now)
-            ≡ push_of (bench self.old.table cells.old reads.now writes.now) who }
-        ensures lengths { lengths_match (bench self.new.table cells.new reads.now writes.now)
-            ≡ lengths_match (bench self.old.table cells.old reads.now writes.now) }
-        ensures kept { (self.new.board ≡ self.old.board) × (self.new.policy ≡ self.old.policy) }
+        ensures outcome { outcome result (rig_bench self.new cells.new reads.now writes.now)
+            ≡ push_of (rig_bench self.old cells.old reads.now writes.now) who }
+        ensures kept { Kept self.old self.new (rig_bench self.old cells.old reads.now writes.now) (rig_bench self.new cells.new reads.now writes.now) }
     {
         push(&mut self.table, who, cells, reads, writes)
     }
 
-    // Interrupts an attempt in hardware, which aborts it.
-    pub fn jolt<W: Word>(
-        &mut self,
-        who: Caller,
-        cells: &[W],
-        reads: &[Slot<W>],
-        writes: &[Slot<W>],
-    ) -> Result<(), Refusal>
-        ensures outcome { outcome result (bench self.new.table cells.now reads.now writes.now)
-            ≡ jolt_of (bench self.old.table cells.now reads.now writes.now) who }
-        ensures lengths { lengths_match (bench self.new.table cells.now reads.now writes.now)
-            ≡ lengths_match (bench self.old.table cells.now reads.now writes.now) }
-        ensures kept { (self.new.board ≡ self.old.board) × (self.new.policy ≡ self.old.policy) }
+    /// Interrupts an attempt in hardware, which aborts it.
+    pub fn jolt<W: Word>(&mut self, who: Caller, lists: Lists<'_, W>) -> Result<(), Refusal>
+        ensures outcome { outcome result (rig_bench_with self.new lists.entry)
+            ≡ jolt_of (rig_bench_with self.old lists.entry) who }
+        ensures kept { Kept self.old self.new (rig_bench_with self.old lists.entry) (rig_bench_with self.new lists.entry) }
     {
-        jolt(&mut self.table, who, cells, reads, writes)
+        jolt(&mut self.table, who, lists)
     }
 
-    // Tries an aborted transaction again.
-    pub fn again<W: Word>(
-        &mut self,
-        who: Caller,
-        cells: &[W],
-        reads: &[Slot<W>],
-        writes: &[Slot<W>],
-    ) -> Result<Mode, Refusal>
-        ensures outcome { let kit = kit_of W.Word B.Board P.Policy self.old.board self.old.policy in
-            let before = bench self.old.table cells.now reads.now writes.now in
-            outcome result (bench self.new.table cells.now reads.now writes.now) ≡ again_of kit.policy before who }
-        ensures lengths { lengths_match (bench self.new.table cells.now reads.now writes.now)
-            ≡ lengths_match (bench self.old.table cells.now reads.now writes.now) }
-        ensures kept { (self.new.board ≡ self.old.board) × (self.new.policy ≡ self.old.policy) }
+    /// Tries an aborted transaction again.
+    pub fn again<W: Word>(&mut self, who: Caller, lists: Lists<'_, W>) -> Result<Mode, Refusal>
+        ensures outcome { let kit = rig_kit W.Word B.Board P.Policy self.old in
+            let before = rig_bench_with self.old lists.entry in
+            outcome result (rig_bench_with self.new lists.entry) ≡ again_of kit.policy before who }
+        ensures kept { Kept self.old self.new (rig_bench_with self.old lists.entry) (rig_bench_with self.new lists.entry) }
     {
-        again(&mut self.table, &self.policy, who, cells, reads, writes)
+        again(&mut self.table, &self.policy, who, lists)
     }
 
-    // Gives a transaction up.
-    pub fn drop<W: Word>(
-        &mut self,
-        who: Caller,
-        cells: &[W],
-        reads: &[Slot<W>],
-        writes: &[Slot<W>],
-    ) -> Result<(), Refusal>
-        ensures outcome { outcome result (bench self.new.table cells.now reads.now writes.now)
-            ≡ drop_of (bench self.old.table cells.now reads.now writes.now) who }
-        ensures lengths { lengths_match (bench self.new.table cells.now reads.now writes.now)
-            ≡ lengths_match (bench self.old.table cells.now reads.now writes.now) }
-        ensures kept { (self.new.board ≡ self.old.board) × (self.new.policy ≡ self.old.policy) }
+    /// Gives a transaction up.
+    pub fn drop<W: Word>(&mut self, who: Caller, lists: Lists<'_, W>) -> Result<(), Refusal>
+        ensures outcome { outcome result (rig_bench_with self.new lists.entry)
+            ≡ drop_of (rig_bench_with self.old lists.entry) who }
+        ensures kept { Kept self.old self.new (rig_bench_with self.old lists.entry) (rig_bench_with self.new lists.entry) }
     {
-        cancel(&mut self.table, who, cells, reads, writes)
+        cancel(&mut self.table, who, lists)
     }
 }

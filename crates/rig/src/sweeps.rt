@@ -3,7 +3,7 @@ ghost use Rattle.std.specs.Prelude.{◌≡◌, ℕ, ◌++◌, ◌∷◌, [], Boo
 ghost use Rattle.rules.specs.declared.types.Head.{Head as HeadRecord};
 ghost use Rattle.rules.specs.declared.types.Slot.{Slot as SlotRecord};
 ghost use Rattle.rules.specs.declared.types.Table.{Table as TableRecord};
-ghost use Rattle.rules.specs.Bench.{hit_by_loads, hit_by_store, bench, map_at, abort_if_hit, lock_out};
+ghost use Rattle.rules.specs.Bench.{hit_by_loads, hit_by_store, bench_with, map_at, abort_if_hit, lock_out};
 ghost use Rattle.rules.specs.Bounds.{HeadBounds};
 ghost use Rattle.rules.specs.Heads.{is_hardware};
 ghost use Rattle.rules.specs.Logs.{log_of};
@@ -11,15 +11,15 @@ ghost use Rattle.rig.specs.Accesses.{cells_of};
 
 use crate::heads::{abort, is_hardware};
 use logs::Log;
-use parts::{Board, Cause, Word};
-use rules::{Head, Slot, State};
+use parts::{Board, Cause, MOST_HEADS, Word};
+use rules::{Head, Lists, RECORDS, State};
 
 // An access to memory: which logs of another head in hardware it runs into.
 pub(crate) trait Access<W: Word> {
     ghost hits: { Self → (ℕ → ℕ) → List (SlotRecord W) → List (SlotRecord W) → Bool };
 
     fn hits<B: Board>(&self, board: &B, reads: &Log<'_, W>, writes: &Log<'_, W>) -> bool
-        ensures { result ≡ hits self.now (B.Board.line board.now) reads.now.slots.now writes.now.slots.now };
+        ensures { result ≡ hits self.now (B.Board.line board.now) reads.now writes.now };
 }
 
 // Loads of cells: those of a log, and perhaps one more.
@@ -30,7 +30,7 @@ pub(crate) struct Loads<'a, W> {
 }
 
 impl<W: Word> Access<W> for Loads<'_, W> {
-    ghost hits = { λ a line reads writes. hit_by_loads line (cells_of a.log.slots.now a.cell) reads writes };
+    ghost hits = { λ a line reads writes. hit_by_loads line (cells_of a.log a.cell) reads writes };
 
     #[tactic(auto, using(crate::proofs::Hits::log_hits, crate::proofs::Hits::cell_hits, crate::proofs::Hits::none_hits))]
     fn hits<B: Board>(&self, board: &B, _reads: &Log<'_, W>, writes: &Log<'_, W>) -> bool {
@@ -66,38 +66,36 @@ fn is_hit<A: Access<W>, B: Board, W: Word>(
     me: u32,
     board: &B,
     access: &A,
-    reads: &[Slot<W>],
-    writes: &[Slot<W>],
+    lists: Lists<'_, W>,
 ) -> bool
     ensures { result
-        ≡ (not (other == me) && (is_hardware head.now.state && A.Access.hits access.now (B.Board.line board.now) (log_of other head.now.read_count reads.now) (log_of other head.now.write_count writes.now))) }
+        ≡ (not (other == me) && (is_hardware head.now.state && A.Access.hits access.now (B.Board.line board.now) (log_of other head.now.read_count lists.entry.reads.now) (log_of other head.now.write_count lists.entry.writes.now))) }
 {
     if other == me || !is_hardware(*head) {
         return false;
     }
-    let reads = Log::of_head(reads, other, head.read_count);
-    let writes = Log::of_head(writes, other, head.write_count);
+    let reads = Log::of_head(lists.reads, other, head.read_count);
+    let writes = Log::of_head(lists.writes, other, head.write_count);
     access.hits(board, &reads, &writes)
 }
 
 // Every other head in hardware whose logs the access hits aborts by conflict.
 pub(crate) fn abort_hit<A: Access<W>, B: Board, W: Word>(
-    heads: &mut [Head; 8],
+    heads: &mut [Head; RECORDS],
     me: u32,
     board: &B,
     access: &A,
-    reads: &[Slot<W>],
-    writes: &[Slot<W>],
+    lists: Lists<'_, W>,
 )
     requires { All HeadBounds heads.old }
     ensures bounds { All HeadBounds heads.new }
-    ensures heads { (t : TableRecord) (cells : List W) →
+    ensures heads { (t : TableRecord) →
         heads.new
-        ≡ map_at (abort_if_hit (bench t cells reads.now writes.now) me (A.Access.hits access.now (B.Board.line board.now))) 0 heads.old }
+        ≡ map_at (abort_if_hit (bench_with t lists.entry) me (A.Access.hits access.now (B.Board.line board.now))) 0 heads.old }
 {
-    for k in 0..8 {
+    for k in 0..MOST_HEADS {
         let at = k as usize;
-        if is_hit(&heads[at], k, me, board, access, reads, writes) {
+        if is_hit(&heads[at], k, me, board, access, lists) {
             heads[at] = abort(heads[at], Cause::Conflict);
         }
     }
@@ -115,11 +113,11 @@ fn lock_out(head: Head) -> Head
 }
 
 // The sequence lock is taken: every head in hardware aborts.
-pub(crate) fn lock_all_out(heads: &mut [Head; 8])
+pub(crate) fn lock_all_out(heads: &mut [Head; RECORDS])
     requires { All HeadBounds heads.old }
     ensures { heads.new ≡ map lock_out heads.old }
 {
-    for k in 0..8 {
+    for k in 0..RECORDS {
         heads[k] = lock_out(heads[k]);
     }
 }

@@ -1,36 +1,30 @@
 // Validation of what a software attempt has read.
-ghost use Rattle.std.specs.Prelude.{◌≡◌, ◌<◌, List, length, map};
-ghost use Rattle.rules.specs.declared.types.Slot.{Slot as SlotRecord};
+ghost use Rattle.std.specs.Prelude.{◌≡◌, ◌<◌, length};
 ghost use Rattle.rules.specs.Kit.{Memory};
-ghost use Rattle.rules.specs.Bench.{bench, is_valid, cells_validated};
+ghost use Rattle.rules.specs.Bench.{bench_with};
+ghost use Rattle.parts.specs.declared.sizes.TheConstants.{MOST_HEADS};
+ghost use Rattle.rules.specs.declared.limits.TheConstants.{RECORDS};
+ghost use Rattle.rig.specs.Validations.{Revalidated};
 
 use crate::heads::present_snapshot;
 use logs::{Log, Validation, validate};
 use parts::Word;
-use rules::{Slot, Table};
+use rules::{Lists, Table};
 
 // What validation finds for a head in software: nothing is loaded while its snapshot is current.
 pub(crate) fn revalidate<'a, W: Word>(
     table: &Table,
     head: u32,
-    cells: &[W],
-    reads: &'a [Slot<W>],
+    lists: Lists<'a, W>,
 ) -> Validation<'a, W>
-    requires eight { length table.now.heads ≡ 8 }
-    requires head { head < 8 }
-    ensures valid { (memory : Memory W) (writes : List (SlotRecord W)) → memory.same ≡ W.Word.same → result.valid
-        ≡ is_valid memory (bench table.now cells.now reads.now writes) head }
-    ensures loaded { (memory : Memory W) (writes : List (SlotRecord W)) → memory.same ≡ W.Word.same → map (λ s. s.cell) result.loaded.slots.now
-        ≡ cells_validated memory (bench table.now cells.now reads.now writes) head }
+    requires records { length table.now.heads ≡ RECORDS }
+    requires head { head < MOST_HEADS }
+    ensures { (memory : Memory W) → memory.same ≡ W.Word.same → Revalidated memory (bench_with table.now lists.entry) head result }
 {
     let me = table.heads[head as usize];
-    let log = Log::of_head(reads, head, me.read_count);
-    let present = present_snapshot(table);
-    if me.snapshot.sequence == present.sequence && me.snapshot.commits == present.commits {
-        return Validation {
-            loaded: log.part(0, 0),
-            valid: true,
-        };
+    let log = Log::of_head(lists.reads, head, me.read_count);
+    if me.snapshot == present_snapshot(table) {
+        return Validation::Valid(log.range(0, 0));
     }
-    validate(cells, &log)
+    validate(lists.cells, &log)
 }

@@ -7,7 +7,7 @@ ghost use Rattle.rules.specs.Calls.{outcome, push_of};
 use crate::admission::admit;
 use logs::Log;
 use parts::{Call, Word};
-use rules::{Caller, Head, Refusal, Slot, State, Table};
+use rules::{Caller, Head, Lists, Refusal, Slot, State, Table};
 
 // The next slot of the write log goes into its cell, and the last one frees the lock.
 pub(crate) fn push<W: Word>(
@@ -21,9 +21,14 @@ pub(crate) fn push<W: Word>(
     ensures { outcome result (bench table.new cells.new reads.now writes.now)
         ≡ push_of (bench table.old cells.old reads.now writes.now) who }
 {
-    let me = admit(table, who, Call::Push, cells, reads, writes)?;
+    let lists = Lists {
+        cells,
+        reads,
+        writes,
+    };
+    let me = admit(table, who, Call::Push, lists)?.head;
     let log = Log::of_head(writes, who.head, me.write_count);
-    log.part(usize::from(me.written), 1).put_into(cells);
+    log.range(usize::from(me.written), 1).put_into(cells);
     let written = me.written + 1;
     let left = me.write_count - written;
     let mut head = Head { written, ..me };

@@ -1,20 +1,21 @@
 // The call that writes.
 ghost use Rattle.std.specs.Prelude.{◌≡◌, ◌++◌, ◌<◌, ◌≤◌, All, List, length};
-ghost use Rattle.rules.specs.Bench.{bench};
+ghost use Rattle.rules.specs.Bench.{bench, bench_with};
 ghost use Rattle.rules.specs.Bounds.{HeadBounds, InBounds};
 ghost use Rattle.rules.specs.Calls.{outcome, write_of};
 ghost use Rattle.rules.specs.Heads.{stores_after};
 ghost use Rattle.rules.specs.Logs.{lines_touched, log_of};
 ghost use Rattle.rules.specs.Kit.{memory_of};
+ghost use Rattle.parts.specs.declared.sizes.TheConstants.{MOST_HEADS};
 ghost use Rattle.rig.specs.Stores.{stored};
 
-use crate::admission::admit;
-use crate::heads::{abort, is_hardware};
+use crate::admission::{Admitted, Transition, admit};
+use crate::heads::abort;
 use crate::noting::put_word;
 use crate::sweeps::{Store, abort_hit};
 use logs::{Log, lines_touched};
-use parts::{Board, Call, Cause, Word};
-use rules::{Caller, Head, Refusal, Slot, State, Table};
+use parts::{Board, Call, Cause, Mode, Word};
+use rules::{Caller, Head, Lists, Refusal, Slot, State, Table};
 
 // The head with so many slots in its write log; a hardware attempt counts a store.
 fn with_write(head: Head, write_count: u8) -> Head
@@ -32,18 +33,12 @@ fn with_write(head: Head, write_count: u8) -> Head
 }
 
 // Whether the head's attempt fits as it is.
-fn fits<B: Board, W: Word>(
-    board: &B,
-    head: u32,
-    me: Head,
-    reads: &[Slot<W>],
-    writes: &[Slot<W>],
-) -> bool
+fn fits<B: Board, W: Word>(board: &B, head: u32, me: Head, lists: Lists<'_, W>) -> bool
     ensures { result
-        ≡ B.Board.fits board.now me.stores (lines_touched (B.Board.line board.now) (log_of head me.read_count reads.now) (log_of head me.write_count writes.now)) }
+        ≡ B.Board.fits board.now me.stores (lines_touched (B.Board.line board.now) (log_of head me.read_count lists.entry.reads.now) (log_of head me.write_count lists.entry.writes.now)) }
 {
-    let read_log = Log::of_head(reads, head, me.read_count);
-    let write_log = Log::of_head(writes, head, me.write_count);
+    let read_log = Log::of_head(lists.reads, head, me.read_count);
+    let write_log = Log::of_head(lists.writes, head, me.write_count);
     board.fits(me.stores, lines_touched(board, &read_log, &write_log))
 }
 
@@ -55,28 +50,19 @@ fn store<B: Board, W: Word>(
     head: u32,
     me: Head,
     cell: u32,
-    reads: &[Slot<W>],
-    writes: &[Slot<W>],
+    lists: Lists<'_, W>,
 ) -> Result<(), Refusal>
-    requires head { head < 8 }
+    requires head { head < MOST_HEADS }
     requires own { HeadBounds me }
     requires others { All HeadBounds table.old.heads }
-    ensures { (cells : List W) →
-        outcome result (bench table.new cells reads.now writes.now)
-        ≡ stored (memory_of W.Word B.Board board.now) (bench table.old cells reads.now writes.now) head me cell }
+    ensures { outcome result (bench_with table.new lists.entry)
+        ≡ stored (memory_of W.Word B.Board board.now) (bench_with table.old lists.entry) head me cell }
 {
-    if !fits(board, head, me, reads, writes) {
+    if !fits(board, head, me, lists) {
         table.heads[head as usize] = abort(me, Cause::Capacity);
         return Err(Refusal::Aborted(Cause::Capacity));
     }
-    abort_hit(
-        &mut table.heads,
-        head,
-        board,
-        &Store { cell },
-        reads,
-        writes,
-    );
+    abort_hit(&mut table.heads, head, board, &Store { cell }, lists);
     table.heads[head as usize] = me;
     Ok(())
 }
@@ -96,16 +82,40 @@ pub(crate) fn write<B: Board, W: Word>(
     ensures { outcome result (bench table.new cells.now reads.now writes.new)
         ≡ write_of (memory_of W.Word B.Board board.now) (bench table.old cells.now reads.now writes.old) who cell word }
 {
-    let me = admit(table, who, Call::Write(cell, word), cells, reads, writes)?;
+    let lists = Lists {
+        cells,
+        reads,
+        writes,
+    };
+    let Admitted {
+        head: me,
+        transition,
+    } = admit(table, who, Call::Write(cell, word), lists)?;
+    let Transition::Write { mode, cell, word } = transition else {
+        unreachable!();
+    };
     let log = Log::of_head(writes, who.head, me.write_count);
-    if log.lacks_room_for(cell) {
-        return Err(Refusal::Full);
+    match log.word_for(cell) {
+        // its slot is replaced
+        Some(_) => {}
+        None if log.is_full() => return Err(Refusal::Full),
+        // a slot is added
+        None => {}
     }
     let write_count = put_word(writes, who.head, me.write_count, cell, word);
     let me = with_write(me, write_count);
-    if is_hardware(me) {
-        return store(table, board, who.head, me, cell, reads, writes);
+    match mode {
+        Mode::Hardware => {
+            let lists = Lists {
+                cells,
+                reads,
+                writes,
+            };
+            store(table, board, who.head, me, cell, lists)
+        }
+        Mode::Software => {
+            table.heads[who.head as usize] = me;
+            Ok(())
+        }
     }
-    table.heads[who.head as usize] = me;
-    Ok(())
 }

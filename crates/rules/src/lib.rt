@@ -9,5 +9,6 @@ mod types;
 pub use limits::{MOST_ATTEMPTS, MOST_TRANSACTIONS, RECORDS, SLOTS};
 pub use theorems::{bounds_stand, call_laws_stand, examples_stand, laws_stand};
 pub use types::{
-    Caller, Closing, Granted, Head, LentLists, Lists, MadeCall, Refusal, Slot, Snapshot, State, Table,
+    Caller, Closing, Granted, Head, LentLists, Lists, MadeCall, Refusal, Slot, Snapshot, State,
+    Table,
 };

@@ -1,3 +1,3 @@
 mod Answered
+mod Places
 mod Whole
-pub mod Places

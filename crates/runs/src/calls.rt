@@ -1,15 +1,15 @@
 // One call of a list, whichever it is.
 ghost use Rattle.std.specs.Prelude.{◌≡◌, Err};
 ghost use Rattle.rules.specs.declared.types.Refusal.TheVariants as refuse;
-ghost use Rattle.rules.specs.Kit.{kit_of};
 ghost use Rattle.rules.specs.Answers.{Answer as Answers, call_of};
-ghost use Rattle.rules.specs.Bench.{Bench, bench};
+ghost use Rattle.rules.specs.Bench.{Bench};
 ghost use Rattle.rules.specs.Runs.{step};
+ghost use Rattle.rig.specs.Rigs.{rig_bench, rig_kit, Kept};
 
 use crate::types::Answer;
 use parts::{Board, Call, Policy, Word};
 use rig::Rig;
-use rules::{Caller, Granted, LentLists, MadeCall, Slot};
+use rules::{Caller, Granted, LentLists, Lists, MadeCall, Slot};
 
 // Makes one of the eight calls, and answers it as all calls are answered.
 fn carry_out<B: Board, P: Policy, W: Word>(
@@ -20,13 +20,18 @@ fn carry_out<B: Board, P: Policy, W: Word>(
     reads: &mut [Slot<W>],
     writes: &mut [Slot<W>],
 ) -> Answer<W>
-    ensures outcome { let kit = kit_of W.Word B.Board P.Policy rig.old.board rig.old.policy in
-        let before = bench rig.old.table cells.old reads.old writes.old in
-        ◌≡◌ {A = Answers W × Bench W} (result, bench rig.new.table cells.new reads.new writes.new) (call_of kit before who call) }
-    ensures kept { (rig.new.board ≡ rig.old.board) × (rig.new.policy ≡ rig.old.policy) }
+    ensures outcome { let kit = rig_kit W.Word B.Board P.Policy rig.old in
+        let before = rig_bench rig.old cells.old reads.old writes.old in
+        ◌≡◌ {A = Answers W × Bench W} (result, rig_bench rig.new cells.new reads.new writes.new) (call_of kit before who call) }
+    ensures kept { Kept rig.old rig.new (rig_bench rig.old cells.old reads.old writes.old) (rig_bench rig.new cells.new reads.new writes.new) }
 {
+    let lists = Lists {
+        cells,
+        reads,
+        writes,
+    };
     Ok(match call {
-        Call::Open => Granted::Begun(rig.open(who, cells, reads, writes)?),
+        Call::Open => Granted::Begun(rig.open(who, lists)?),
         Call::Read(cell) => Granted::Word(rig.read(who, cell, cells, reads, writes)?),
         Call::Write(cell, word) => {
             rig.write(who, cell, word, cells, reads, writes)?;
@@ -35,12 +40,12 @@ fn carry_out<B: Board, P: Policy, W: Word>(
         Call::Close => Granted::Closed(rig.close(who, cells, reads, writes)?),
         Call::Push => Granted::SlotsLeft(rig.push(who, cells, reads, writes)?),
         Call::Jolt => {
-            rig.jolt(who, cells, reads, writes)?;
+            rig.jolt(who, lists)?;
             Granted::Done
         }
-        Call::Again => Granted::Begun(rig.again(who, cells, reads, writes)?),
+        Call::Again => Granted::Begun(rig.again(who, lists)?),
         Call::Drop => {
-            rig.drop(who, cells, reads, writes)?;
+            rig.drop(who, lists)?;
             Granted::Done
         }
     })
@@ -61,7 +66,7 @@ fn carry_out_without_lists<B: Board, P: Policy, W: Word>(
     carry_out(rig, who, call, &mut cells, &mut reads, &mut writes)
 }
 
-// Makes a call as it is handed over: with the lists, or with lists of wrong length, which no rig has.
+/// Makes a call as it is handed over: with the lists, or with lists of wrong length, which no rig has.
 pub fn make<B: Board, P: Policy, W: Word>(
     rig: &mut Rig<B, P>,
     call: MadeCall<W>,
@@ -69,10 +74,10 @@ pub fn make<B: Board, P: Policy, W: Word>(
     reads: &mut [Slot<W>],
     writes: &mut [Slot<W>],
 ) -> Answer<W>
-    ensures outcome { let kit = kit_of W.Word B.Board P.Policy rig.old.board rig.old.policy in
-        let before = bench rig.old.table cells.old reads.old writes.old in
-        ◌≡◌ {A = Answers W × Bench W} (result, bench rig.new.table cells.new reads.new writes.new) (step kit before call) }
-    ensures kept { (rig.new.board ≡ rig.old.board) × (rig.new.policy ≡ rig.old.policy) }
+    ensures outcome { let kit = rig_kit W.Word B.Board P.Policy rig.old in
+        let before = rig_bench rig.old cells.old reads.old writes.old in
+        ◌≡◌ {A = Answers W × Bench W} (result, rig_bench rig.new cells.new reads.new writes.new) (step kit before call) }
+    ensures kept { Kept rig.old rig.new (rig_bench rig.old cells.old reads.old writes.old) (rig_bench rig.new cells.new reads.new writes.new) }
 {
     match call.lent {
         LentLists::Right => carry_out(rig, call.caller, call.call, cells, reads, writes),

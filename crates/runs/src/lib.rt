@@ -7,4 +7,4 @@ mod types;
 
 pub use calls::make;
 pub use runs::{run, run_with};
-pub use types::{Answer, Calls, Run, RunError, RunWith, SetUp};
+pub use types::{Answer, Calls, Run, RunWith, SetUp};

@@ -1,79 +1,68 @@
 // Whole runs.
-ghost use Rattle.std.specs.Prelude.{◌≡◌, ◌+◌, ◌∷◌, ◌<◌, Err, IfErr, IfOk, Ok, drop, length, min, take, vec_capacity, vec_items, vec_len};
+ghost use Rattle.std.specs.Prelude.{◌≡◌, IfOk, OnErr, drop, length, min, take, vec_capacity, vec_items, vec_len};
 ghost use Rattle.rules.specs.Bench.{bench};
-ghost use Rattle.rules.specs.Calls.{new_table, set_up};
+ghost use Rattle.rules.specs.Calls.{new_table};
 ghost use Rattle.rules.specs.Kit.{kit_of};
 ghost use Rattle.rules.specs.Runs.{answers_of, left_by};
-ghost use Rattle.runs.specs.Ran.{Ran, SetUpAs};
+ghost use Rattle.rig.specs.Rigs.{rig_bench, rig_kit, IsOver, Kept};
+ghost use Rattle.runs.specs.Ran.{Ran};
 
 use crate::calls::make;
-use crate::types::{Answer, Calls, Run, RunError, RunWith, SetUp};
+use crate::types::{Answer, Calls, Run, RunWith, SetUp};
 use parts::{Board, Policy, Word};
 use rig::Rig;
-use rules::{MadeCall, Refusal, Slot};
+use rules::{Refusal, Slot};
 use std::alloc::{AllocError, Global};
 
-// The call at a place that the list has.
-#[tactic(auto, using(crate::proofs::Places::rest_at, crate::proofs::Places::none_at))]
-fn nth_call<W: Word, C: Calls<W>>(calls: &C, at: usize) -> MadeCall<W>
-    requires { at < length (C.Calls.made calls.now) }
-    ensures { drop at (C.Calls.made calls.now) ≡ result ∷ drop (at + 1) (C.Calls.made calls.now) }
-{
-    match calls.call_at(at) {
-        Some(call) => call,
-        None => unreachable!(),
-    }
-}
-
 // Makes the calls in their order, as many as there is room for their answers, and tells how many.
-fn make_all<B: Board, P: Policy, W: Word, C: Calls<W>>(
+fn make_all<B: Board, P: Policy, W: Word, C: Calls<W> + Drop>(
     rig: &mut Rig<B, P>,
-    calls: &C,
+    calls: C,
     cells: &mut [W],
     reads: &mut [Slot<W>],
     writes: &mut [Slot<W>],
     answers: &mut [Answer<W>],
 ) -> usize
-    ensures count { result ≡ min (length (C.Calls.made calls.now)) (length answers.old) }
-    ensures answers { let kit = kit_of W.Word B.Board P.Policy rig.old.board rig.old.policy in
-        let before = bench rig.old.table cells.old reads.old writes.old in
-        take result answers.new ≡ answers_of kit before (take result (C.Calls.made calls.now)) }
-    ensures left { let kit = kit_of W.Word B.Board P.Policy rig.old.board rig.old.policy in
-        let before = bench rig.old.table cells.old reads.old writes.old in
-        bench rig.new.table cells.new reads.new writes.new ≡ left_by kit before (take result (C.Calls.made calls.now)) }
+    ensures count { result ≡ min (length (C.Calls.made calls)) (length answers.old) }
+    ensures answers { let kit = rig_kit W.Word B.Board P.Policy rig.old in
+        let before = rig_bench rig.old cells.old reads.old writes.old in
+        take result answers.new ≡ answers_of kit before (take result (C.Calls.made calls)) }
+    ensures left { let kit = rig_kit W.Word B.Board P.Policy rig.old in
+        let before = rig_bench rig.old cells.old reads.old writes.old in
+        rig_bench rig.new cells.new reads.new writes.new ≡ left_by kit before (take result (C.Calls.made calls)) }
     ensures rest { drop result answers.new ≡ drop result answers.old }
-    ensures kept { (rig.new.board ≡ rig.old.board) × (rig.new.policy ≡ rig.old.policy) }
+    ensures kept { Kept rig.old rig.new (rig_bench rig.old cells.old reads.old writes.old) (rig_bench rig.new cells.new reads.new writes.new) }
 {
-    let count = calls.count().min(answers.len());
-    for at in 0..count {
-        answers[at] = make(rig, nth_call(calls, at), cells, reads, writes);
+    let mut calls = calls;
+    for (at, answer) in answers.iter_mut().enumerate() {
+        match calls.next() {
+            Some(call) => *answer = make(rig, call, cells, reads, writes),
+            None => return at,
+        }
     }
-    count
+    answers.len()
 }
 
-// Sets a rig up and makes the calls on it, one after another, with no memory but what is lent: as many calls as there is
-// room for their answers. Where the rig is not set up, everything that is lent is as it was.
-pub fn run_with<B: Board + Drop, P: Policy + Drop, W: Word, C: Calls<W>>(
+/// Sets a rig up and makes the calls on it, one after another, with no memory but what is lent: as many calls as there is
+/// room for their answers. No size that a rig may not have can be handed over, so no run is refused.
+pub fn run_with<B: Board, P: Policy, W: Word, C: Calls<W> + Drop>(
     from: SetUp<B, P>,
-    calls: &C,
+    calls: C,
     cells: &mut [W],
     reads: &mut [Slot<W>],
     writes: &mut [Slot<W>],
     answers: &mut [Answer<W>],
-) -> Result<RunWith<B, P>, Refusal>
-    ensures count { IfOk result (λ run. run.count ≡ min (length (C.Calls.made calls.now)) (length answers.old)) }
+) -> RunWith<B, P>
+    ensures count { result.count ≡ min (length (C.Calls.made calls)) (length answers.old) }
     ensures ran { let kit = kit_of W.Word B.Board P.Policy from.board from.policy in
-        let before = bench (new_table from.heads from.cells) cells.old reads.old writes.old in
-        IfOk result (λ run. Ran kit before (take run.count (C.Calls.made calls.now)) (take run.count answers.new) (bench run.rig.table cells.new reads.new writes.new)) }
-    ensures rest { IfOk result (λ run. drop run.count answers.new ≡ drop run.count answers.old) }
-    ensures parts { IfOk result (λ run. (run.rig.board ≡ from.board) × (run.rig.policy ≡ from.policy)) }
-    ensures set_up { IfOk result (λ run. set_up from.heads from.cells ≡ Ok (new_table from.heads from.cells)) }
-    ensures refused { IfErr result (λ e. set_up from.heads from.cells ≡ Err e) }
-    ensures untouched { IfErr result (λ _. (cells.new ≡ cells.old) × (reads.new ≡ reads.old) × (writes.new ≡ writes.old) × (answers.new ≡ answers.old)) }
+        let before = bench (new_table from.size.heads from.size.cells) cells.old reads.old writes.old in
+        Ran kit before (take result.count (C.Calls.made calls)) (take result.count answers.new) (rig_bench result.rig cells.new reads.new writes.new) }
+    ensures rest { drop result.count answers.new ≡ drop result.count answers.old }
+    ensures over { IsOver from.board from.policy result.rig }
 {
-    let mut rig = Rig::set_up(from.heads, from.cells, from.board, from.policy)?;
+    let mut rig = Rig::new(from.size, from.board, from.policy);
     let count = make_all(&mut rig, calls, cells, reads, writes, answers);
-    Ok(RunWith { rig, count })
+    RunWith { rig, count }
 }
 
 // Room for so many answers.
@@ -88,34 +77,27 @@ fn room<W: Word>(heap: Global, count: usize) -> Result<Vec<Answer<W>>, AllocErro
     Ok(answers)
 }
 
-// The same with the answers in memory of their own. Want of memory comes after the set-up.
-pub fn run<B: Board + Drop, P: Policy + Drop, W: Word, C: Calls<W>>(
+/// The same for all of the calls, with the answers in memory of their own. Where memory is wanting no call is made, and the
+/// lists are as they were.
+pub fn run<B: Board + Drop, P: Policy + Drop, W: Word, C: Calls<W> + Drop>(
     heap: Global,
     from: SetUp<B, P>,
-    calls: &C,
+    calls: C,
     cells: &mut [W],
     reads: &mut [Slot<W>],
     writes: &mut [Slot<W>],
-) -> Result<Run<B, P, W>, RunError>
+) -> Result<Run<B, P, W>, AllocError>
     ensures ran { let kit = kit_of W.Word B.Board P.Policy from.board from.policy in
-        let before = bench (new_table from.heads from.cells) cells.old reads.old writes.old in
-        IfOk result (λ run. Ran kit before (C.Calls.made calls.now) (vec_items run.answers) (bench run.rig.table cells.new reads.new writes.new)) }
-    ensures room { IfOk result (λ run. vec_capacity run.answers ≡ length (C.Calls.made calls.now)) }
-    ensures parts { IfOk result (λ run. (run.rig.board ≡ from.board) × (run.rig.policy ≡ from.policy)) }
-    ensures set_up { SetUpAs from.heads from.cells result }
-    ensures untouched { IfErr result (λ _. (cells.new ≡ cells.old) × (reads.new ≡ reads.old) × (writes.new ≡ writes.old)) }
+        let before = bench (new_table from.size.heads from.size.cells) cells.old reads.old writes.old in
+        IfOk result (λ run. Ran kit before (C.Calls.made calls) (vec_items run.answers) (rig_bench run.rig cells.new reads.new writes.new)) }
+    ensures room { IfOk result (λ run. vec_capacity run.answers ≡ length (C.Calls.made calls)) }
+    ensures over { IfOk result (λ run. IsOver from.board from.policy run.rig) }
+    ensures untouched { OnErr result ((cells.new ≡ cells.old) × (reads.new ≡ reads.old) × (writes.new ≡ writes.old)) }
 {
-    match room(heap, calls.count()) {
-        Ok(mut answers) => {
-            let run = run_with(from, calls, cells, reads, writes, answers.as_mut_slice())?;
-            Ok(Run {
-                rig: run.rig,
-                answers,
-            })
-        }
-        Err(e) => {
-            let _rig = Rig::set_up(from.heads, from.cells, from.board, from.policy)?;
-            Err(RunError::NoMemory(e))
-        }
-    }
+    let mut answers = room(heap, calls.left())?;
+    let ran = run_with(from, calls, cells, reads, writes, answers.as_mut_slice());
+    Ok(Run {
+        rig: ran.rig,
+        answers,
+    })
 }

@@ -1,5 +1,5 @@
 // A run through the library: rates, calls by head and by handle, and lists of wrong length.
-use parts::{Call, LinesBoard, Margin, Plain, Prices, Rate};
+use parts::{Call, LinesBoard, Margin, Plain, Prices, Rate, Size};
 use rules::{Caller, Granted, LentLists, MadeCall, Refusal, Slot};
 use runs::{Answer, SetUp, run};
 use std::process::Abort;
@@ -60,13 +60,22 @@ fn rates_by_head_and_by_handle(rt: HostRuntime) -> Result<(), Fail> {
         by(0, None, Call::Read(1)),
         by(0, Some(1), Call::Drop),
     ];
+    let Some(size) = Size::new(2, 2) else {
+        return Err(Fail::new("no such size"));
+    };
     let from = SetUp {
-        heads: 2,
-        cells: 2,
+        size,
         board: Margin { below: LinesBoard },
         policy: Plain,
     };
-    let Ok(run) = run(heap, from, &calls, &mut cells, &mut reads, &mut writes) else {
+    let Ok(run) = run(
+        heap,
+        from,
+        calls.iter().copied(),
+        &mut cells,
+        &mut reads,
+        &mut writes,
+    ) else {
         return Err(Fail::new("no run"));
     };
     let numbers = [0, 6, 0, 6, 0, 6, 0, 0, 12, 0, 0, 0, 2, 6, 0];

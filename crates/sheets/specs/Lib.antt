@@ -1,4 +1,5 @@
 pub mod Rows
 pub mod Starts
+pub mod CallLists
 pub mod Kits
 pub mod Sheets

@@ -1,7 +1,10 @@
 // What a run begins with: the cells as the settings leave them, empty slots, and the calls as their heads make them.
 ghost use Rattle.std.specs.Prelude.{◌≡◌, ◌<◌, ◌*◌, pos, map, replicate, All, IfOk};
 ghost use Rattle.rules.specs.Logs.{slot};
+ghost use Rattle.std.specs.Iterator.{YieldsFirst, item_count};
+ghost use Rattle.sheets.specs.CallLists.{calls_left};
 ghost use Rattle.sheets.specs.Starts.{made_call, cells_before};
+ghost use Rattle.std.proofs.Common.{rules};
 
 use entries::{HeadCall, Setting};
 use rules::{Caller, LentLists, MadeCall, Slot};
@@ -47,23 +50,36 @@ fn made_call(call: HeadCall) -> MadeCall<i32>
     }
 }
 
-// The calls of a scenario, in their order, as their heads make them.
+// The calls of a scenario that are still to come, as their heads make them.
 #[derive(Drop)]
 pub(crate) struct ByHead<'a> {
     pub(crate) calls: &'a [HeadCall],
 }
 
-impl Calls<i32> for ByHead<'_> {
-    ghost made = { λ list. map made_call list.calls.now };
+impl Iterator for ByHead<'_> {
+    type Item = MadeCall<i32>;
 
-    fn count(&self) -> usize {
-        self.calls.len()
+    ghost next_gives = { YieldsFirst calls_left };
+
+    ghost remaining = { item_count calls_left };
+
+    fn next(&mut self) -> Option<MadeCall<i32>> {
+        let (first, others) = self.calls.split_first()?;
+        self.calls = others;
+        Some(made_call(*first))
     }
+}
 
-    fn call_at(&self, at: usize) -> Option<MadeCall<i32>> {
-        match self.calls.get(at) {
-            Some(call) => Some(made_call(*call)),
-            None => None,
-        }
+impl Calls<i32> for ByHead<'_> {
+    ghost made = { calls_left };
+
+    ghost ready = { Prim.search rules };
+
+    ghost ends = { Prim.search rules };
+
+    ghost in_order = { Prim.search rules };
+
+    fn left(&self) -> usize {
+        self.calls.len()
     }
 }

@@ -8,15 +8,15 @@ use Rattle.logs.proofs.lines.count_beside.Goals as goal
 pub loop-left-preserved : goal.loop-left-preserved
 loop-left-preserved g c =
     let line = g.B.Board.line c.args.board.now in
-    let log = c.args.log.now.slots.now in
-    let other = c.args.other.now.slots.now in
+    let log = c.args.log.now in
+    let other = c.args.other.now in
     let n = c.loop-left.left in
     let later = drop n log in
-    let s = get_or log (n - 1) c.index-log-left.result in
+    let s = get_or log (n - 1) c.index-slots-left.result in
     let before = c.loop-left.count in
     let after = c.if-is_new.count in
-    let told = c.line-line.ensures in
-    let back = one_before log other n c.index-log-left.result c.loop-left-test.true c.loop-left.invariant.within in
+    let told = c.line-line.ensures ∙ ap (λ xs. line (get_or xs (n - 1) c.index-slots-left.result).cell) c.slots-slots.ensures.slots in
+    let back = one_before log other n c.index-slots-left.result c.loop-left-test.true c.loop-left.invariant.within in
     let more : after ≤ before + 1 = elim c.if-is_new.branch [
       | then-is_new w ↦ let q = w.count-is in omega arith
       | else-is_new w ↦ let q = w.count-is in omega arith

@@ -6,5 +6,5 @@ use Rattle.logs.proofs.validation.unchanged.Given as goal
 abbrev pub invariant-loop-slot : goal.invariant-loop-slot
 invariant-loop-slot g l = record {
   count : l.count ≡ l.slot-index;
-  rest : l.count + prefix_len (holds g.W.Word.same l.cells) (drop l.slot-index l.log.slots.now) ≡ prefix_len (holds g.W.Word.same l.cells) l.log.slots.now;
+  rest : l.count + prefix_len (holds g.W.Word.same l.cells) (drop l.slot-index l.log) ≡ prefix_len (holds g.W.Word.same l.cells) l.log;
 }

@@ -16,8 +16,8 @@ invariant_of-self g c =
 pub returns-clause-outcome : goal.returns-clause-outcome
 returns-clause-outcome g c = c.close.ensures
 
-pub returns-clause-lengths : goal.returns-clause-lengths
-returns-clause-lengths g c =
+pub returns-clause-kept : goal.returns-clause-kept
+returns-clause-kept g c =
     let b = bench c.args.self.now.table c.args.cells.now c.args.reads.now c.args.writes.now in
     let kit = kit_of g.W.Word g.B.Board g.P.Policy c.args.self.now.board c.args.self.now.policy in
-    left_lengths kit c.args.who b Close c.close.result (c.close.ensures) refl c.args.self.now.in_bounds
+    record { board = refl; policy = refl; lengths = left_lengths kit c.args.who b Close c.close.result (c.close.ensures) refl c.args.self.now.in_bounds }

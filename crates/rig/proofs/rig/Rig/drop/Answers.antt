@@ -1,6 +1,6 @@
 use Rattle.std.proofs.Common.{refl}
 use Rattle.parts.specs.declared.calls.Call.TheVariants.{Drop}
-use Rattle.rules.specs.Bench.{bench}
+use Rattle.rules.specs.Bench.{bench_with}
 use Rattle.rules.specs.Calls.{drop_of}
 use Rattle.rules.specs.Kit.{kit_of}
 use Rattle.rules.proofs.KeptBounds.{bounds-kept}
@@ -9,12 +9,12 @@ use Rattle.rig.proofs.rig.Rig.drop.Goals as goal
 
 pub invariant_of-self : goal.invariant_of-self
 invariant_of-self g c =
-    let b = bench c.args.self.now.table c.args.cells.now c.args.reads.now c.args.writes.now in
+    let b = bench_with c.args.self.now.table c.args.lists in
     let kit = kit_of g.W.Word g.B.Board g.P.Policy c.args.self.now.board c.args.self.now.policy in
-    record { in_bounds = left_in_bounds c.cancel.result (bench c.cancel.new.table c.args.cells.now c.args.reads.now c.args.writes.now) (drop_of b c.args.who) (c.cancel.ensures) (bounds-kept kit b c.args.who Drop c.args.self.now.in_bounds).0 }
+    record { in_bounds = left_in_bounds c.cancel.result (bench_with c.cancel.new.table c.args.lists) (drop_of b c.args.who) (c.cancel.ensures) (bounds-kept kit b c.args.who Drop c.args.self.now.in_bounds).0 }
 
-pub returns-clause-lengths : goal.returns-clause-lengths
-returns-clause-lengths g c =
-    let b = bench c.args.self.now.table c.args.cells.now c.args.reads.now c.args.writes.now in
+pub returns-clause-kept : goal.returns-clause-kept
+returns-clause-kept g c =
+    let b = bench_with c.args.self.now.table c.args.lists in
     let kit = kit_of g.W.Word g.B.Board g.P.Policy c.args.self.now.board c.args.self.now.policy in
-    left_lengths kit c.args.who b Drop c.cancel.result (c.cancel.ensures) refl c.args.self.now.in_bounds
+    record { board = refl; policy = refl; lengths = left_lengths kit c.args.who b Drop c.cancel.result (c.cancel.ensures) refl c.args.self.now.in_bounds }

@@ -1,6 +1,6 @@
 use Rattle.std.proofs.Common.{refl}
 use Rattle.parts.specs.declared.calls.Call.TheVariants.{Open}
-use Rattle.rules.specs.Bench.{bench}
+use Rattle.rules.specs.Bench.{bench_with}
 use Rattle.rules.specs.Calls.{open_of}
 use Rattle.rules.specs.Kit.{kit_of}
 use Rattle.rules.proofs.KeptBounds.{bounds-kept}
@@ -9,12 +9,12 @@ use Rattle.rig.proofs.rig.Rig.open.Goals as goal
 
 pub invariant_of-self : goal.invariant_of-self
 invariant_of-self g c =
-    let b = bench c.args.self.now.table c.args.cells.now c.args.reads.now c.args.writes.now in
+    let b = bench_with c.args.self.now.table c.args.lists in
     let kit = kit_of g.W.Word g.B.Board g.P.Policy c.args.self.now.board c.args.self.now.policy in
-    record { in_bounds = left_in_bounds c.open.result (bench c.open.new.table c.args.cells.now c.args.reads.now c.args.writes.now) (open_of b c.args.who) (c.open.ensures) (bounds-kept kit b c.args.who Open c.args.self.now.in_bounds).0 }
+    record { in_bounds = left_in_bounds c.open.result (bench_with c.open.new.table c.args.lists) (open_of b c.args.who) (c.open.ensures) (bounds-kept kit b c.args.who Open c.args.self.now.in_bounds).0 }
 
-pub returns-clause-lengths : goal.returns-clause-lengths
-returns-clause-lengths g c =
-    let b = bench c.args.self.now.table c.args.cells.now c.args.reads.now c.args.writes.now in
+pub returns-clause-kept : goal.returns-clause-kept
+returns-clause-kept g c =
+    let b = bench_with c.args.self.now.table c.args.lists in
     let kit = kit_of g.W.Word g.B.Board g.P.Policy c.args.self.now.board c.args.self.now.policy in
-    left_lengths kit c.args.who b Open c.open.result (c.open.ensures) refl c.args.self.now.in_bounds
+    record { board = refl; policy = refl; lengths = left_lengths kit c.args.who b Open c.open.result (c.open.ensures) refl c.args.self.now.in_bounds }

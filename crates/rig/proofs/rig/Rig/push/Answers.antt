@@ -13,8 +13,8 @@ invariant_of-self g c =
     let kit = kit_of g.W.Word g.B.Board g.P.Policy c.args.self.now.board c.args.self.now.policy in
     record { in_bounds = left_in_bounds c.push.result (bench c.push.new.table c.push.new.cells c.args.reads.now c.args.writes.now) (push_of b c.args.who) (c.push.ensures) (bounds-kept kit b c.args.who Push c.args.self.now.in_bounds).0 }
 
-pub returns-clause-lengths : goal.returns-clause-lengths
-returns-clause-lengths g c =
+pub returns-clause-kept : goal.returns-clause-kept
+returns-clause-kept g c =
     let b = bench c.args.self.now.table c.args.cells.now c.args.reads.now c.args.writes.now in
     let kit = kit_of g.W.Word g.B.Board g.P.Policy c.args.self.now.board c.args.self.now.policy in
-    left_lengths kit c.args.who b Push c.push.result (c.push.ensures) refl c.args.self.now.in_bounds
+    record { board = refl; policy = refl; lengths = left_lengths kit c.args.who b Push c.push.result (c.push.ensures) refl c.args.self.now.in_bounds }
