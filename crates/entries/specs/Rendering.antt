@@ -87,7 +87,7 @@ ShortValues (entry.Rig r) fields = (r.policy ≡ policy.Plain) × (fields ≡ de
 ShortValues (entry.Set s) fields = ⊥
 ShortValues (entry.Call k) fields = ⊥
 
--- Numbers have 32 bits, and amounts 32 signed bits.
+-- Numbers fit into 32 bits, and amounts into 32 signed bits.
 
 abbrev pub CallFits : Call ℕ ℤ → Type 0
 CallFits call.Open = Unit {0}

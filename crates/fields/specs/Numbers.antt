@@ -7,12 +7,12 @@ use Rattle.fields.specs.declared.types.Field.{Field}
 use Rattle.fields.specs.declared.types.Field.TheVariants.{Minus, Plain}
 use Rattle.faults.specs.declared.types.FieldFault.{FieldFault}
 
--- `decimal n` is the numeral of n: digits, without plus sign or leading zeros. A number has 32 bits.
+-- `decimal n` is the numeral of n: digits, without plus sign or leading zeros. A number fits into 32 bits.
 abbrev pub Number : List ℕ → ℕ → Type 0
 Number bytes n = (bytes ≡ decimal n) × (n < 2 ^ 32)
 
 -- `signed_decimal z` is the numeral of z: that of its size, after a minus sign if z is below 0.
--- An amount lies in 32 signed bits.
+-- An amount fits into 32 signed bits.
 abbrev pub Amount : List ℕ → ℤ → Type 0
 Amount bytes z = (bytes ≡ signed_decimal z) × FitsSigned w32 z
 

@@ -1,5 +1,6 @@
 // Whole and spoiled texts, with what is told of them.
 use entries::{Entry, Setting};
+use faults::{LineFault, Place, RigFault};
 use scenario::readback;
 use std::alloc::Global;
 use std::process::Abort;
@@ -192,8 +193,10 @@ fn texts(rt: HostRuntime) -> Result<(), Fail> {
 
 #[test]
 fn without_memory(rt: HostRuntime) {
-    assert!(rt; matches!(scenario::check(b"rig\t1\t1\tlines\no\t0"), Ok(2)));
-    assert!(rt; scenario::check(b"rig\t1\t1\tlines\no").is_err());
+    assert_eq!(rt; scenario::check(b"rig\t1\t1\tlines\no\t0"), Ok(2));
+    let second = Place { line: 2, byte: 14 };
+    let miscounted = RigFault::Line(LineFault::Miscounted(second));
+    assert_eq!(rt; scenario::check(b"rig\t1\t1\tlines\no"), Err(miscounted));
     assert!(rt; scenario::check(b"").is_err());
 }
 
@@ -209,6 +212,22 @@ fn longest_text(rt: HostRuntime) -> Result<(), Fail> {
     assert!(rt; out.as_str().ends_with("o\t0\nwhole\t16380\n"));
     text.push(b'\n')?;
     told(&rt, heap, &text, "fault\t25\t0\t65536\tline\n")
+}
+
+// The message of a fault, through all layers.
+#[test]
+fn message(rt: HostRuntime) -> Result<(), Fail> {
+    let heap = rt.alloc();
+    let reading = scenario::read(heap, b"rig\t1\t1\tlines\nset\t0\tx");
+    let Err(error) = reading.end else {
+        return Err(Fail::new("a faulty text is told as whole"));
+    };
+    let message = format!(in heap; "{error}")?;
+    assert_eq!(rt;
+        message.as_str(),
+        "line 2, byte 20: the field is no number in range"
+    );
+    Ok(())
 }
 
 // What a text says, rendered; and one entry by itself.
