@@ -1,8 +1,7 @@
 // Texts that come from a reader, and what is printed of them, which goes to a writer.
 ghost use Rattle.std.specs.Prelude.{◌≡◌, ◌+◌, ◌≤◌, ◌<◌, ◌≢◌, length, take, vec_len, IfOk, IfErr, IfSome, OnErr, MatchResult, string_bytes};
 ghost use Rattle.std.specs.IoError.{error_kind};
-ghost use Rattle.std.specs.Io.KnownBytes.{Appends, Keeps};
-ghost use Rattle.std.specs.Io.Take.{take_limit, take_inner};
+ghost use Rattle.std.specs.Io.KnownBytes.{Appends, Consumes, IsAtEnd, Keeps};
 ghost use Rattle.scenario.specs.Laws.{ReadBack};
 ghost use Rattle.scenario.specs.Streams.{BeforeWriting, Lasting, PrintOf, Printed, Written};
 ghost use Rattle.scenario.specs.declared.streams.StreamError.TheVariants as error;
@@ -11,7 +10,7 @@ use crate::printed::readback;
 use crate::texts::LONGEST;
 use std::alloc::{AllocError, Global};
 use std::io;
-use std::io::{ErrorKind, Read, Take, Write};
+use std::io::{ErrorKind, Read, Write};
 use thiserror::Error;
 
 /// Why a text was not read and printed to its end.
@@ -36,26 +35,58 @@ impl From<AllocError> for StreamError {
 // One byte more than the longest text that is read: with that many, a text is known to be too long.
 const ENOUGH: usize = LONGEST + 1;
 
-// The reader, up to so many bytes.
-fn limited<R: Read>(input: R) -> Take<R>
-    ensures limit { take_limit result ≡ LONGEST + 1 }
-    ensures inner { take_inner result ≡ input }
+// Reads into the front of a buffer, and returns how many bytes. None are read where there is no room or nothing is left.
+fn read_some<R: Read>(input: &mut R, buffer: &mut [u8]) -> io::Result<usize>
+    ensures within { IfOk result (λ n. n ≤ length buffer.new) }
+    ensures taken { IfOk result (λ n. Consumes (R.remaining input.old) (R.remaining input.new) (take n buffer.new)) }
+    ensures end { IfOk result (λ n. n ≡ 0 → 0 < length buffer.old → IsAtEnd (R.remaining input.new)) }
+    ensures lasting { IfErr result Lasting }
 {
-    input.take(ENOUGH as u64)
+    for _ in 0..u64::MAX {
+        match input.read(buffer) {
+            Ok(n) => return Ok(n),
+            Err(e) => {
+                if e.kind() != ErrorKind::Interrupted {
+                    return Err(e);
+                }
+            }
+        }
+    }
+    Err(io::Error::from(ErrorKind::TimedOut))
+}
+
+// Reads until the buffer is full or nothing is left, and returns how many bytes.
+fn fill<R: Read>(input: &mut R, buffer: &mut [u8]) -> io::Result<usize>
+    ensures within { IfOk result (λ n. n ≤ length buffer.new) }
+    ensures first { IfOk result (λ n. IfSome (R.remaining input.old) (λ bytes. take n buffer.new ≡ take (length buffer.old) bytes)) }
+    ensures lasting { IfErr result Lasting }
+{
+    let mut count = 0;
+    while count < buffer.len() {
+        let read = read_some(input, &mut buffer[count..])?;
+        if read == 0 {
+            return Ok(count);
+        }
+        count += read;
+    }
+    Ok(count)
 }
 
 /// The bytes that a reader has left, at most one more than [`LONGEST`], so that a text which is too long is seen to
 /// be. An error is `NotRead`, the reader's own, or `NoMemory`.
-pub fn read_text<R: Read + Drop>(heap: Global, input: R) -> Result<Vec<u8>, StreamError>
+pub fn read_text<R: Read + Drop>(heap: Global, mut input: R) -> Result<Vec<u8>, StreamError>
     ensures text { IfOk result (λ text. IfSome (R.remaining input) (λ bytes. text.items ≡ take (LONGEST + 1) bytes)) }
+    ensures most { IfOk result (λ text. vec_len text ≤ LONGEST + 1) }
     ensures error { IfErr result BeforeWriting }
 {
-    // with room to spare, so that the end is seen and no more memory is asked for
-    let mut text = Vec::with_capacity(heap, ENOUGH + 1)?;
-    limited(input)
-        .read_to_end(&mut text)
-        .map_err(StreamError::NotRead)?;
-    Ok(text)
+    let mut text = vec![in heap; 0; ENOUGH]?;
+    match fill(&mut input, text.as_mut_slice()) {
+        Ok(count) => {
+            text.truncate(count);
+            Ok(text)
+        }
+        Err(e) => Err(StreamError::NotRead(e)),
+    }
 }
 
 // Writes the first of the bytes, and returns how many. An error leaves the writer as it was.
