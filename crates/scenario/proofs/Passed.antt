@@ -1,11 +1,11 @@
 -- A text that is read from a reader, and what is printed of it.
-use Rattle.std.proofs.Common.{◌≡◌, ℕ, List, [], ◌++◌, ◌+◌, length, take, min, Some, None, Option, refl, sym, subst, ap, ◌∙◌, arith}
+use Rattle.std.proofs.Common.{◌≡◌, ℕ, List, ◌++◌, ◌+◌, length, take, min, Some, None, Option, refl, sym, subst, ap, ◌∙◌, arith}
 use Rattle.std.specs.Option.{IfSome}
 use Rattle.std.proofs.lemmas.List.{length-take, take_all}
 use Rattle.std.proofs.Math.Seq.{take-append_seam}
 use Rattle.entries.specs.declared.types.Entry.{Entry}
 use Rattle.faults.specs.declared.types.RigFault.{RigFault}
-use Rattle.scenario.specs.declared.texts.TheConstants.{LONGEST}
+use Rattle.faults.specs.declared.texts.TheConstants.{LONGEST}
 use Rattle.scenario.specs.Texts.{TextSays, long, empty, lined}
 use Rattle.scenario.specs.Laws.{ReadBack}
 use Rattle.scenario.specs.Streams.{PrintOf}

@@ -1,6 +1,5 @@
 // Texts that come from a reader, and what is printed of them, which goes to a writer.
-ghost use Rattle.std.specs.Prelude.{◌≡◌, ◌+◌, ◌≤◌, ◌<◌, ◌≢◌, length, take, vec_len, IfOk, IfErr, IfSome, OnErr, MatchResult, string_bytes};
-ghost use Rattle.std.specs.IoError.{error_kind};
+ghost use Rattle.std.specs.Prelude.{◌≡◌, ◌+◌, ◌≤◌, ◌<◌, length, take, vec_len, IfOk, IfErr, IfSome, OnErr, MatchResult, string_bytes};
 ghost use Rattle.std.specs.Io.KnownBytes.{Appends, Consumes, IsAtEnd, Keeps};
 ghost use Rattle.scenario.specs.Laws.{ReadBack};
 ghost use Rattle.scenario.specs.Streams.{BeforeWriting, Lasting, PrintOf, Printed, Written};
@@ -34,6 +33,13 @@ impl From<AllocError> for StreamError {
 
 // One byte more than the longest text that is read: with that many, a text is known to be too long.
 const ENOUGH: usize = LONGEST + 1;
+
+// A buffer of so many bytes.
+fn buffer(heap: Global) -> Result<Vec<u8>, AllocError>
+    ensures { IfOk result (λ buffer. vec_len buffer ≡ LONGEST + 1) }
+{
+    vec![in heap; 0; ENOUGH]
+}
 
 // Reads into the front of a buffer, and returns how many bytes. None are read where there is no room or nothing is left.
 fn read_some<R: Read>(input: &mut R, buffer: &mut [u8]) -> io::Result<usize>
@@ -79,7 +85,7 @@ pub fn read_text<R: Read + Drop>(heap: Global, mut input: R) -> Result<Vec<u8>, 
     ensures most { IfOk result (λ text. vec_len text ≤ LONGEST + 1) }
     ensures error { IfErr result BeforeWriting }
 {
-    let mut text = vec![in heap; 0; ENOUGH]?;
+    let mut text = buffer(heap)?;
     match fill(&mut input, text.as_mut_slice()) {
         Ok(count) => {
             text.truncate(count);
