@@ -14,4 +14,6 @@ fn main(rt: HostRuntime) {
 }
 
 #[cfg(test)]
+mod stream_tests;
+#[cfg(test)]
 mod tests;

@@ -16,4 +16,6 @@ fn main(rt: HostRuntime) {
 #[cfg(test)]
 mod library_tests;
 #[cfg(test)]
+mod stream_tests;
+#[cfg(test)]
 mod tests;

@@ -3,3 +3,4 @@ pub mod Once
 pub mod Rendered
 pub mod Whole
 pub mod Passed
+pub mod Writing

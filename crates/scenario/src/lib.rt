@@ -9,6 +9,6 @@ mod texts;
 mod types;
 
 pub use printed::readback;
-pub use streams::{print_readback, read_text, write_text};
+pub use streams::{StreamError, print_readback, read_text, write_text};
 pub use texts::{LONGEST, check, read};
 pub use types::{ReadError, Reading, Scenario};

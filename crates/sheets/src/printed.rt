@@ -1,14 +1,13 @@
 // What is printed of a text that is run.
-ghost use Rattle.std.specs.Prelude.{◌≡◌, IfOk, IfErr, IfSome, OnOk, Err, string_bytes};
+ghost use Rattle.std.specs.Prelude.{◌≡◌, IfOk, IfErr, MatchResult, Err, string_bytes};
 ghost use Rattle.scenario.specs.declared.types.ReadError.TheVariants as error;
-ghost use Rattle.scenario.specs.Streams.{Printed};
+ghost use Rattle.scenario.specs.Streams.{BeforeWriting, PrintOf, Printed};
 ghost use Rattle.sheets.specs.Sheets.{end_at, SheetOf, SheetOnce};
 
 use crate::rigs::sheet_of;
 use faults::RigFault;
-use scenario::{ReadError, Reading, read, read_text, write_text};
+use scenario::{ReadError, Reading, StreamError, read, read_text, write_text};
 use std::alloc::{AllocError, Global};
-use std::io;
 use std::io::{Read, Write};
 
 // The fault at which a reading ended, if it ended at one; want of memory is no fault of the text.
@@ -35,23 +34,23 @@ pub fn run_sheet(heap: Global, text: &[u8]) -> Result<String, AllocError>
 }
 
 // The run sheet of the bytes that a reader has left.
-fn sheet_read<R: Read + Drop>(heap: Global, input: R) -> io::Result<String>
-    ensures { IfOk result (λ sheet. IfSome (R.remaining input) (λ text. SheetOf text (string_bytes sheet))) }
+fn sheet_read<R: Read + Drop>(heap: Global, input: R) -> Result<String, StreamError>
+    ensures { MatchResult result (λ sheet. PrintOf SheetOf (R.remaining input) (string_bytes sheet)) BeforeWriting }
 {
     let text = read_text(heap, input)?;
     let sheet = run_sheet(heap, &text)?;
     Ok(sheet)
 }
 
-// Reads a text, and writes its run sheet: the whole of the program `runsheet` but for where it reads and writes.
-#[tactic(auto, using(crate::proofs::Printing::sheet_printed))]
+/// Reads a text, and writes its run sheet: the whole of the program `runsheet` but for where it reads and writes. Nothing is
+/// written before the text is read and run to its end.
 pub fn print_run_sheet<R: Read + Drop, W: Write>(
     heap: Global,
     input: R,
     output: &mut W,
-) -> io::Result<()>
-    ensures { OnOk result (Printed SheetOf (R.remaining input) (W.contents output.old) (W.contents output.new)) }
+) -> Result<(), StreamError>
+    ensures { Printed SheetOf result (R.remaining input) (W.contents output.old) (W.contents output.new) }
 {
     let sheet = sheet_read(heap, input)?;
-    write_text(output, sheet.as_str())
+    write_text(output, sheet.as_str()).map_err(StreamError::NotWritten)
 }
