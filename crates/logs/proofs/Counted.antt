@@ -47,13 +47,6 @@ module _ {W : Type 0} (line : ℕ → ℕ) where
       → n ≡ distinct_count (lines_of line (xs ++ ys)) → fresh ≡ false → m ≡ n → m ≡ distinct_count (l ∷ lines_of line (xs ++ ys))
   counted_known l n m xs ys fresh f e t q = q ∙ none_more l n xs ys e (turned (touches line l xs || touches line l ys) false (sym f ∙ t))
 
-  -- a line whose remainder is not marked is on neither log
-  pub unmarked_new : (marks : List Bool) (l : ℕ) (xs ys : List (Slot W)) → Marked line marks (xs ++ ys) → get_or marks (l % 64) false ≡ false
-      → not (touches line l xs || touches line l ys) ≡ true
-  unmarked_new marks l xs ys m e =
-      by-test (touches line l xs || touches line l ys) (λ b. not b ≡ true)
-      (λ t. wrong (sym e ∙ m l (list_any-append (λ (s : Slot W). eqb l (line s.cell)) xs ys ∙ t))) (λ _. refl)
-
   -- once its remainder is marked, a line more may be touched
   pub marked_more : (marks : List Bool) (s : Slot W) (log : List (Slot W)) → length marks ≡ 64 → Marked line marks log → Marked line (set marks (line s.cell % 64) true) (s ∷ log)
   marked_more marks s log long m l t = by-test (eqb l (line s.cell)) (λ b. (b || touches line l log) ≡ true → get_or (set marks i true) (l % 64) false ≡ true) here before t

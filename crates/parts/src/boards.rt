@@ -2,22 +2,22 @@
 ghost use Rattle.std.specs.Prelude.{◌≡◌, ℕ, Bool};
 ghost use Rattle.parts.specs.Boards.{stores_line, stores_fit, lines_line, lines_fit, with_margin};
 
-// A board has two fixed meanings, and asking it changes neither.
+/// A board has two fixed meanings, and asking it changes neither.
 pub trait Board {
     ghost line: { Self → ℕ → ℕ };
 
     ghost fits: { Self → ℕ → ℕ → Bool };
 
-    // The line of a cell.
+    /// The line of a cell.
     fn line(&self, cell: u32) -> u32
         ensures { result ≡ line self.now cell };
 
-    // Whether a hardware attempt with so many stores and so many lines touched fits.
+    /// Whether a hardware attempt with so many stores and so many lines touched fits.
     fn fits(&self, stores: u16, lines: u16) -> bool
         ensures { result ≡ fits self.now stores lines };
 }
 
-// Eight cells to a line; at most 32 stores.
+/// Eight cells to a line; at most 32 stores.
 #[derive(Clone, Copy, Debug, PartialEq, Eq)]
 pub struct StoresBoard;
 
@@ -35,8 +35,8 @@ impl Board for StoresBoard {
     }
 }
 
-// Four cells to a line; at most four lines touched.
-// Its `line` is not shared with the other board's: one division by a constant is shorter than a call of one.
+/// Four cells to a line; at most four lines touched.
+/// Its `line` is not shared with the other board's: one division by a constant is shorter than a call of one.
 #[derive(Clone, Copy, Debug, PartialEq, Eq)]
 pub struct LinesBoard;
 
@@ -54,7 +54,7 @@ impl Board for LinesBoard {
     }
 }
 
-// A board that keeps four stores and one line of the board below free for the interrupt handler.
+/// A board that keeps four stores and one line of the board below free for the interrupt handler.
 #[derive(Clone, Copy, Debug, PartialEq, Eq)]
 pub struct Margin<B: Board> {
     pub below: B,

@@ -9,7 +9,7 @@ ghost use Rattle.std.proofs.Common.{rules};
 
 use crate::types::{Cause, Mode};
 
-// A policy answers from the cause of the latest abort and the number of the transaction's hardware aborts.
+/// A policy answers from the cause of the latest abort and the number of the transaction's hardware aborts.
 pub trait Policy {
     ghost next: { Self → Cause → ℕ → Mode };
 
@@ -38,7 +38,7 @@ fn software_from(n: u32, aborts: u32) -> Mode
     }
 }
 
-// Software from the third hardware abort on.
+/// Software from the third hardware abort on.
 #[derive(Clone, Copy, Debug, PartialEq, Eq)]
 pub struct Plain;
 
@@ -58,7 +58,7 @@ impl Policy for Plain {
     }
 }
 
-// Software at once after capacity, from the fifth hardware abort on after lock or an interrupt, from the sixteenth on after conflict.
+/// Software at once after capacity, from the fifth hardware abort on after lock or an interrupt, from the sixteenth on after conflict.
 #[derive(Clone, Copy, Debug, PartialEq, Eq)]
 pub struct Careful;
 

@@ -5,7 +5,7 @@ ghost use Rattle.std.proofs.Common.{rules};
 
 use crate::types::Rate;
 
-// A word: it can be copied, and two of them can be told apart.
+/// A word: it can be copied, and two of them can be told apart.
 pub trait Word: Copy {
     ghost same: { Self → Self → Bool };
 
