@@ -42,7 +42,7 @@ impl<'a, W: Word> LogMut<'a, W> {
     pub fn len(&self) -> usize
         ensures { result ≡ length (log_in self.now) }
     {
-        self.count
+        self.as_log().len()
     }
 
     /// The log as it is looked into.

@@ -6,6 +6,7 @@ use Rattle.parts.specs.Boards.{stores_line, stores_fit, lines_line, lines_fit, w
 use Rattle.parts.specs.Policies.{plain_mode}
 use Rattle.parts.specs.declared.calls.Call.{Call}
 use Rattle.parts.specs.declared.calls.Call.TheVariants.{Open, Read, Write, Close, Push, Jolt, Again, Drop}
+use Rattle.rules.specs.declared.limits.TheConstants.{SLOTS}
 use Rattle.rules.specs.declared.types.LentLists.TheVariants as lent
 use Rattle.rules.specs.declared.types.MadeCall.{MadeCall}
 use Rattle.rules.specs.Kit.{Kit}
@@ -32,7 +33,7 @@ on_stores = record {
 -- a rig of so many heads and cells that is set up, and the amounts that its cells hold
 abbrev pub rig_with : ℕ → ℕ → List ℕ → Bench ℤ
 rig_with heads cells amounts =
-    let slots = replicate (32 * heads) (slot 0 (pos 0)) in
+    let slots = replicate (SLOTS * heads) (slot 0 (pos 0)) in
     record { table = new_table heads cells; cells = map pos amounts; reads = slots; writes = slots }
 
 -- a value, as an amount
