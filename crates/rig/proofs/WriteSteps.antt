@@ -12,7 +12,8 @@ use Rattle.rules.specs.declared.types.Refusal.{Refusal}
 use Rattle.rules.specs.declared.types.Refusal.TheVariants as refuse
 use Rattle.rules.specs.Kit.{Memory}
 use Rattle.rules.specs.Logs.{put, word_for, lacks_room_for, lines_of, distinct_count, log_of, slots_with}
-use Rattle.rules.specs.Heads.{abort, is_hardware, stores_after}
+use Rattle.rules.specs.Heads.{abort, is_hardware, state_in, stores_after}
+use Rattle.parts.specs.declared.types.Mode.{Mode}
 use Rattle.rules.specs.Bounds.{HeadBounds}
 use Rattle.rules.specs.Bench.{Bench, bench, head_at, abort_if_hit, hit_by_store, after_store}
 use Rattle.rules.specs.Refusals.{when, first_found}
@@ -37,6 +38,12 @@ module _ {W : Type 0} (memory : Memory W) (b : Bench W) (k : ℕ) (h : Head) (c 
   stored_ok ys fits es =
       ap (λ zs. outcome (Ok tt) (bench (record b.table { heads = set zs k h }) b.cells b.reads b.writes)) es
       ∙ sym (ap (λ t. cond t (outcome (Ok tt) (bench (record b.table { heads = set (after_store memory b k c) k h }) b.cells b.reads b.writes)) (leaves b (Err (refuse.Aborted Capacity)) (record b.table { heads = set b.table.heads k (abort Capacity h) }))) fits)
+
+-- a head counts the store by its state as by how its attempt runs
+pub counted : (x y : Head) (m : Mode) (n : ℕ) → x.state ≡ state_in m
+    → y ≡ record x { stores = stores_after (state_in m) x.stores; write_count = n }
+    → y ≡ record x { stores = stores_after x.state x.stores; write_count = n }
+counted x y m n e is = is ∙ ap (λ s. record x { stores = stores_after s x.stores; write_count = n }) (sym e)
 
 -- the word is in the head's log, and the slots of the others are as they were
 module _ {W : Type 0} (memory : Memory W) (b : Bench W) (k c : ℕ) (log : List (Slot W)) (few : length log ≤ 32) (room : 32 * k + 32 ≤ length b.writes) where

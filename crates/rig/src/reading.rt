@@ -5,6 +5,7 @@ ghost use Rattle.parts.specs.declared.calls.Call.TheVariants as calls;
 ghost use Rattle.rules.specs.Bench.{bench};
 ghost use Rattle.rules.specs.Bounds.{InBounds};
 ghost use Rattle.rules.specs.Calls.{outcome, read_of, hardware_read, software_read};
+ghost use Rattle.rules.specs.Heads.{state_in};
 ghost use Rattle.rules.specs.Logs.{lacks_room_for, lines_touched_with, log_of};
 ghost use Rattle.rig.specs.Admission.{Admits};
 ghost use Rattle.rules.specs.Kit.{memory_of};
@@ -127,7 +128,42 @@ fn read_in_software<B: Board, W: Word>(
     }
 }
 
-// The word that the head's write log has for the cell, or else the cell's.
+// The word that the head's write log has for the cell, or else the cell's, for a head whose state takes the read.
+fn read_admitted<B: Board, W: Word>(
+    table: &mut Table,
+    board: &B,
+    who: Caller,
+    me: Head,
+    mode: Mode,
+    cell: u32,
+    cells: &[W],
+    reads: &mut [Slot<W>],
+    writes: &[Slot<W>],
+) -> Result<W, Refusal>
+    requires bounds { InBounds table.old }
+    requires admitted { Admits (bench table.old cells.now reads.old writes.now) who (calls.Read cell) me }
+    requires mode { me.state ≡ state_in mode }
+    ensures { outcome result (bench table.new cells.now reads.new writes.now)
+        ≡ read_of (memory_of W.Word B.Board board.now) (bench table.old cells.now reads.old writes.now) who cell }
+{
+    let write_log = Log::of_head(writes, who.head, me.write_count);
+    if let Some(word) = write_log.word_for(cell) {
+        return Ok(word);
+    }
+    if must_wait(table, mode) {
+        return Err(Refusal::Busy);
+    }
+    let read_log = Log::of_head(reads, who.head, me.read_count);
+    if read_log.lacks_room_for(cell) {
+        return Err(Refusal::Full);
+    }
+    match mode {
+        Mode::Hardware => read_in_hardware(table, board, who, me, cell, cells, reads, writes),
+        Mode::Software => read_in_software(table, board, who, me, cell, cells, reads, writes),
+    }
+}
+
+// Reads the cell.
 pub(crate) fn read<B: Board, W: Word>(
     table: &mut Table,
     board: &B,
@@ -153,19 +189,5 @@ pub(crate) fn read<B: Board, W: Word>(
     let Transition::Read { mode, cell } = transition else {
         unreachable!();
     };
-    let write_log = Log::of_head(writes, who.head, me.write_count);
-    if let Some(word) = write_log.word_for(cell) {
-        return Ok(word);
-    }
-    if must_wait(table, mode) {
-        return Err(Refusal::Busy);
-    }
-    let read_log = Log::of_head(reads, who.head, me.read_count);
-    if read_log.lacks_room_for(cell) {
-        return Err(Refusal::Full);
-    }
-    match mode {
-        Mode::Hardware => read_in_hardware(table, board, who, me, cell, cells, reads, writes),
-        Mode::Software => read_in_software(table, board, who, me, cell, cells, reads, writes),
-    }
+    read_admitted(table, board, who, me, mode, cell, cells, reads, writes)
 }

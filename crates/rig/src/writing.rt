@@ -3,10 +3,12 @@ ghost use Rattle.std.specs.Prelude.{◌≡◌, ◌++◌, ◌<◌, ◌≤◌, All
 ghost use Rattle.rules.specs.Bench.{bench, bench_with};
 ghost use Rattle.rules.specs.Bounds.{HeadBounds, InBounds};
 ghost use Rattle.rules.specs.Calls.{outcome, write_of};
-ghost use Rattle.rules.specs.Heads.{stores_after};
+ghost use Rattle.rules.specs.Heads.{state_in, stores_after};
 ghost use Rattle.rules.specs.Logs.{lines_touched, log_of};
 ghost use Rattle.rules.specs.Kit.{memory_of};
 ghost use Rattle.parts.specs.declared.sizes.TheConstants.{MOST_HEADS};
+ghost use Rattle.parts.specs.declared.calls.Call.TheVariants as calls;
+ghost use Rattle.rig.specs.Admission.{Admits};
 ghost use Rattle.rig.specs.Stores.{stored};
 
 use crate::admission::{Admitted, Transition, admit};
@@ -15,15 +17,15 @@ use crate::noting::put_word;
 use crate::sweeps::{Store, abort_hit};
 use logs::{Log, lines_touched};
 use parts::{Board, Call, Cause, Mode, Word};
-use rules::{Caller, Head, Lists, Refusal, Slot, State, Table};
+use rules::{Caller, Head, Lists, Refusal, Slot, Table};
 
 // The head with so many slots in its write log; a hardware attempt counts a store.
-fn with_write(head: Head, write_count: u8) -> Head
-    ensures { result ≡ record head { stores = stores_after head.state head.stores; write_count = write_count } }
+fn with_write(head: Head, mode: Mode, write_count: u8) -> Head
+    ensures { result ≡ record head { stores = stores_after (state_in mode) head.stores; write_count = write_count } }
 {
-    let stores = match head.state {
-        State::Hardware => head.stores.saturating_add(1),
-        _ => head.stores,
+    let stores = match mode {
+        Mode::Hardware => head.stores.saturating_add(1),
+        Mode::Software => head.stores,
     };
     Head {
         stores,
@@ -67,7 +69,52 @@ fn store<B: Board, W: Word>(
     Ok(())
 }
 
-// Replaces the cell's word in the head's write log, or adds it.
+// Replaces the cell's word in the head's write log, or adds it, for a head whose state takes the write.
+fn write_admitted<B: Board, W: Word>(
+    table: &mut Table,
+    board: &B,
+    who: Caller,
+    me: Head,
+    mode: Mode,
+    slot: Slot<W>,
+    cells: &[W],
+    reads: &[Slot<W>],
+    writes: &mut [Slot<W>],
+) -> Result<(), Refusal>
+    requires bounds { InBounds table.old }
+    requires admitted { Admits (bench table.old cells.now reads.now writes.old) who (calls.Write slot.cell slot.word) me }
+    requires mode { me.state ≡ state_in mode }
+    ensures { outcome result (bench table.new cells.now reads.now writes.new)
+        ≡ write_of (memory_of W.Word B.Board board.now) (bench table.old cells.now reads.now writes.old) who slot.cell slot.word }
+{
+    let Slot { cell, word } = slot;
+    let log = Log::of_head(writes, who.head, me.write_count);
+    match log.word_for(cell) {
+        // its slot is replaced
+        Some(_) => {}
+        None if log.is_full() => return Err(Refusal::Full),
+        // a slot is added
+        None => {}
+    }
+    let write_count = put_word(writes, who.head, me.write_count, cell, word);
+    let me = with_write(me, mode, write_count);
+    match mode {
+        Mode::Hardware => {
+            let lists = Lists {
+                cells,
+                reads,
+                writes,
+            };
+            store(table, board, who.head, me, cell, lists)
+        }
+        Mode::Software => {
+            table.heads[who.head as usize] = me;
+            Ok(())
+        }
+    }
+}
+
+// Writes the word to the cell, in the write log.
 pub(crate) fn write<B: Board, W: Word>(
     table: &mut Table,
     board: &B,
@@ -94,28 +141,6 @@ pub(crate) fn write<B: Board, W: Word>(
     let Transition::Write { mode, cell, word } = transition else {
         unreachable!();
     };
-    let log = Log::of_head(writes, who.head, me.write_count);
-    match log.word_for(cell) {
-        // its slot is replaced
-        Some(_) => {}
-        None if log.is_full() => return Err(Refusal::Full),
-        // a slot is added
-        None => {}
-    }
-    let write_count = put_word(writes, who.head, me.write_count, cell, word);
-    let me = with_write(me, write_count);
-    match mode {
-        Mode::Hardware => {
-            let lists = Lists {
-                cells,
-                reads,
-                writes,
-            };
-            store(table, board, who.head, me, cell, lists)
-        }
-        Mode::Software => {
-            table.heads[who.head as usize] = me;
-            Ok(())
-        }
-    }
+    let slot = Slot { cell, word };
+    write_admitted(table, board, who, me, mode, slot, cells, reads, writes)
 }

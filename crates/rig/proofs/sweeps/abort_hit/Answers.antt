@@ -1,4 +1,4 @@
-use Rattle.std.proofs.Common.{subst, sym, ap, ◌∙◌, All, Bool, not, ◌&&◌, eqb, cond, [], length, get_or, ◌<◌, arith}
+use Rattle.std.proofs.Common.{subst, sym, ap, ◌∙◌, All, Bool, not, ◌&&◌, eqb, cond, length, get_or, ◌<◌, arith}
 use Rattle.rules.specs.Heads.{new_head}
 use Rattle.rules.specs.Bench.{bench_with, abort_if_hit}
 use Rattle.rules.specs.Bounds.{HeadBounds}
