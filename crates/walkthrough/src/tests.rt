@@ -81,17 +81,23 @@ fn walk_as_a_list(rt: HostRuntime) -> Result<(), Fail> {
 
 // A software attempt of head 0: three interrupts, and the plain policy says so.
 fn in_software(bench: &mut Bench) -> Option<Running> {
-    let begun = Running::open(&mut bench.rig, 0, &bench.cells, &bench.reads, &bench.writes).ok()?;
+    let begun = Running::open(&mut bench.rig, 0, bench.lent.lists()).ok()?;
     let mut handle = begun.handle;
     for _ in 0..3 {
-        let _ = handle.jolt(&mut bench.rig, &bench.cells, &bench.reads, &bench.writes);
+        let _ = handle.jolt(&mut bench.rig, bench.lent.lists());
         let aborted = handle.into_aborted(&bench.rig).ok()?;
-        let begun = aborted
-            .again(&mut bench.rig, &bench.cells, &bench.reads, &bench.writes)
-            .ok()?;
+        let begun = aborted.again(&mut bench.rig, bench.lent.lists()).ok()?;
         handle = begun.handle;
     }
     Some(handle)
+}
+
+// The number and the value of a push.
+fn told(answer: &Result<Pushed, Refused<Option<WritingBack>>>) -> (u8, u8) {
+    match answer {
+        Ok(pushed) => (pushed.number(), pushed.value()),
+        Err(refused) => (refused.refusal.number(), 0),
+    }
 }
 
 // A handle that comes back from a push, whether it was granted or not.
@@ -105,7 +111,7 @@ fn kept(answer: Result<Pushed, Refused<Option<WritingBack>>>) -> Option<WritingB
 
 // A handle of a transaction that is over: 5 while its head is idle, and 12 once the head has another one.
 fn handle_of_an_ended_transaction_on<R: Abort>(rt: &R, bench: &mut Bench) -> Result<(), Fail> {
-    let Ok(old) = Running::open(&mut bench.rig, 0, &bench.cells, &bench.reads, &bench.writes) else {
+    let Ok(old) = Running::open(&mut bench.rig, 0, bench.lent.lists()) else {
         return Err(Fail::new("no transaction"));
     };
     let Err(back) = old.handle.into_aborted(&bench.rig) else {
@@ -117,9 +123,7 @@ fn handle_of_an_ended_transaction_on<R: Abort>(rt: &R, bench: &mut Bench) -> Res
         head: 0,
         transaction: None,
     };
-    let dropped = bench
-        .rig
-        .drop(head, &bench.cells, &bench.reads, &bench.writes);
+    let dropped = bench.rig.drop(head, bench.lent.lists());
     assert!(rt; dropped.is_ok());
     let idle = old.read(
         &mut bench.rig,
@@ -132,9 +136,10 @@ fn handle_of_an_ended_transaction_on<R: Abort>(rt: &R, bench: &mut Bench) -> Res
         return Err(Fail::new("read"));
     };
     assert_eq!(rt; refusal.number(), 5);
-    let Ok(new) = Running::open(&mut bench.rig, 0, &bench.cells, &bench.reads, &bench.writes) else {
+    let Ok(new) = Running::open(&mut bench.rig, 0, bench.lent.lists()) else {
         return Err(Fail::new("no second transaction"));
     };
+    assert!(rt; old != new.handle);
     let stale = old.read(
         &mut bench.rig,
         0,
@@ -158,13 +163,11 @@ fn handle_of_an_ended_transaction_on<R: Abort>(rt: &R, bench: &mut Bench) -> Res
         &bench.writes,
     );
     assert!(rt; word.is_ok());
-    let _ = new
-        .handle
-        .jolt(&mut bench.rig, &bench.cells, &bench.reads, &bench.writes);
+    let _ = new.handle.jolt(&mut bench.rig, bench.lent.lists());
     let Ok(aborted) = new.handle.into_aborted(&bench.rig) else {
         return Err(Fail::new("not exchanged"));
     };
-    let given_up = aborted.drop(&mut bench.rig, &bench.cells, &bench.reads, &bench.writes);
+    let given_up = aborted.drop(&mut bench.rig, bench.lent.lists());
     assert!(rt; given_up.is_ok());
     Ok(())
 }
@@ -185,15 +188,18 @@ fn handle_of_a_commit_on<R: Abort>(rt: &R, bench: &mut Bench) -> Result<(), Fail
         );
         assert!(rt; written.is_ok());
     }
-    let Ok(Closed::WritingBack(handle, attempts)) = handle.close(
+    let Ok(closed) = handle.close(
         &mut bench.rig,
         &mut bench.cells,
         &bench.reads,
         &bench.writes,
     ) else {
+        return Err(Fail::new("not closed"));
+    };
+    assert_eq!(rt; (closed.number(), closed.value()), (1, 4));
+    let Closed::WritingBack(handle, _) = closed else {
         return Err(Fail::new("nothing to push"));
     };
-    assert_eq!(rt; attempts, 4);
     let none: [Slot<i32>; 0] = [];
     let handle = match handle.push(&mut bench.rig, &mut bench.cells, &none, &bench.writes) {
         Err(
@@ -213,12 +219,14 @@ fn handle_of_a_commit_on<R: Abort>(rt: &R, bench: &mut Bench) -> Result<(), Fail
         }
     };
     assert_eq!(rt; bench.cells, [5, 7]);
-    let Some(handle) = kept(handle.push(
+    let first = handle.push(
         &mut bench.rig,
         &mut bench.cells,
         &bench.reads,
         &bench.writes,
-    )) else {
+    );
+    assert_eq!(rt; told(&first), (0, 1));
+    let Some(handle) = kept(first) else {
         return Err(Fail::new("no slot left after one push of two"));
     };
     assert_eq!(rt; bench.cells, [9, 7]);
@@ -230,11 +238,7 @@ fn handle_of_a_commit_on<R: Abort>(rt: &R, bench: &mut Bench) -> Result<(), Fail
         .rig
         .push(head, &mut bench.cells, &bench.reads, &bench.writes);
     assert!(rt; last.is_ok());
-    assert!(rt;
-        bench
-            .rig
-            .lists_match(&bench.cells, &bench.reads, &bench.writes)
-    );
+    assert!(rt; bench.rig.lists_match(bench.lent.lists()));
     match handle.push(
         &mut bench.rig,
         &mut bench.cells,
@@ -266,16 +270,23 @@ fn handle_of_a_commit_on<R: Abort>(rt: &R, bench: &mut Bench) -> Result<(), Fail
 
 #[test]
 fn handle_of_an_ended_transaction(rt: HostRuntime) -> Result<(), Fail> {
-    let Ok(mut bench) = Bench::set_up([5, 7]) else {
-        return Err(Fail::new("no rig"));
-    };
+    let mut bench = Bench::set_up([5, 7]);
     handle_of_an_ended_transaction_on(&rt, &mut bench)
 }
 
 #[test]
 fn handle_of_a_commit(rt: HostRuntime) -> Result<(), Fail> {
-    let Ok(mut bench) = Bench::set_up([5, 7]) else {
-        return Err(Fail::new("no rig"));
-    };
+    let mut bench = Bench::set_up([5, 7]);
     handle_of_a_commit_on(&rt, &mut bench)
+}
+
+#[test]
+fn refused_handle_prints_as_its_refusal(rt: HostRuntime) -> Result<(), Fail> {
+    let refused = Refused {
+        refusal: Refusal::StaleHandle,
+        handle: (),
+    };
+    let text = format!(in rt.alloc(); "{refused}")?;
+    assert_eq!(rt; text.as_str(), "the handle's transaction is not its head's");
+    Ok(())
 }
