@@ -1,5 +1,5 @@
 -- What a handle's answer says of the handle that comes of it, and of what is left to push.
-use Rattle.std.proofs.Common.{◌≡◌, ℕ, ℤ, Some, None, Ok, Err, Option, Result, sym, refl, ap, ◌∙◌}
+use Rattle.std.proofs.Common.{◌≡◌, ℕ, ℤ, Some, None, Ok, Err, Option, Result, refl, ap}
 use Rattle.rules.specs.declared.types.Closing.{Closing}
 use Rattle.rules.specs.declared.types.Closing.TheVariants as closing
 use Rattle.rules.specs.declared.types.Head.{Head}
@@ -7,7 +7,6 @@ use Rattle.rules.specs.declared.types.Refusal.{Refusal}
 use Rattle.rules.specs.Bench.{Bench}
 use Rattle.handles.specs.declared.attempts.Running.{Running}
 use Rattle.handles.specs.declared.attempts.Aborted.{Aborted}
-use Rattle.handles.specs.declared.attempts.Closed.{Closed}
 use Rattle.handles.specs.declared.attempts.Closed.TheVariants as closed
 use Rattle.handles.specs.declared.commits.WritingBack.{WritingBack}
 use Rattle.handles.specs.declared.refusals.Refused.{Refused}

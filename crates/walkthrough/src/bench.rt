@@ -33,3 +33,16 @@ impl Bench {
         }
     }
 }
+
+// The lists of a bench, for a call that changes none of them. A macro, since a method would borrow the rig with them.
+macro_rules! lists {
+    ($bench:expr) => {
+        rules::Lists {
+            cells: &$bench.cells,
+            reads: &$bench.reads,
+            writes: &$bench.writes,
+        }
+    };
+}
+
+pub(crate) use lists;

@@ -6,11 +6,11 @@ ghost use Rattle.rules.specs.Refusals.{by_number};
 ghost use Rattle.handles.specs.Handles.{running_caller, writing_back_caller, IsNumbered, WrittenBack, pushes_of};
 ghost use Rattle.walkthrough.specs.Walk.{committed, mode_text, on_bench, pushes_told};
 
-use crate::bench::Bench;
+use crate::bench::{Bench, lists};
 use crate::stopped::Stopped;
 use handles::{Closed, Refused, Running, WritingBack};
 use parts::Mode;
-use rules::{Lists, Refusal};
+use rules::Refusal;
 
 fn mode_word(mode: Mode) -> &'static str
     ensures { result.now ≡ mode_text mode }
@@ -27,12 +27,7 @@ impl Bench {
         ensures left { on_bench self.new ≡ (open_of (on_bench self.old) (by_number head)).left }
         ensures cells { (on_bench self.new).cells ≡ (on_bench self.old).cells }
     {
-        let lists = Lists {
-            cells: &self.cells,
-            reads: &self.reads,
-            writes: &self.writes,
-        };
-        let begun = Running::open(&mut self.rig, head, lists)?;
+        let begun = Running::open(&mut self.rig, head, lists!(self))?;
         println!(rt;
             "head {head} opens a transaction in {}",
             mode_word(begun.mode)
@@ -102,12 +97,7 @@ impl Bench {
             ≡ (jolt_of (on_bench self.old) (running_caller handle.now)).left }
         ensures cells { (on_bench self.new).cells ≡ (on_bench self.old).cells }
     {
-        let lists = Lists {
-            cells: &self.cells,
-            reads: &self.reads,
-            writes: &self.writes,
-        };
-        if let Err(refusal) = handle.jolt(&mut self.rig, lists) {
+        if let Err(refusal) = handle.jolt(&mut self.rig, lists!(self)) {
             println!(rt;
                 "head {head} is interrupted, and is refused with {}",
                 refusal.number()
@@ -128,12 +118,7 @@ impl Bench {
         ensures cells { (on_bench self.new).cells ≡ (on_bench self.old).cells }
     {
         let aborted = handle.into_aborted(&self.rig)?;
-        let lists = Lists {
-            cells: &self.cells,
-            reads: &self.reads,
-            writes: &self.writes,
-        };
-        let begun = aborted.again(&mut self.rig, lists)?;
+        let begun = aborted.again(&mut self.rig, lists!(self))?;
         println!(rt; "head {head} tries again in {}", mode_word(begun.mode))?;
         Ok(begun.handle)
     }
@@ -183,12 +168,7 @@ impl Bench {
             ≡ (drop_of (on_bench self.old) (running_caller handle)).left }
         ensures cells { (on_bench self.new).cells ≡ (on_bench self.old).cells }
     {
-        let lists = Lists {
-            cells: &self.cells,
-            reads: &self.reads,
-            writes: &self.writes,
-        };
-        handle.drop(&mut self.rig, lists)?;
+        handle.drop(&mut self.rig, lists!(self))?;
         println!(rt; "head {head} drops its transaction")?;
         Ok(())
     }

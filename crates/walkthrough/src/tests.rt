@@ -1,7 +1,7 @@
 // Calls by handle, one at a time and as a list.
-use crate::bench::Bench;
-use handles::{Closed, Pushed, Refused, Running, WritingBack};
-use parts::{Call, LinesBoard, Margin, Plain};
+use crate::bench::{Bench, lists};
+use handles::{Aborted, Closed, Pushed, Refused, Running, WritingBack};
+use parts::{Call, LinesBoard, Margin, Plain, Size};
 use rules::{Caller, Closing, Granted, LentLists, MadeCall, Refusal, Slot};
 use runs::{Answer, SetUp, run};
 use std::process::Abort;
@@ -63,14 +63,18 @@ fn walk_as_a_list(rt: HostRuntime) -> Result<(), Fail> {
         })?;
     }
     let from = SetUp {
-        heads: 2,
-        cells: 2,
+        size: Size { heads: 2, cells: 2 },
         board: Margin { below: LinesBoard },
         policy: Plain,
     };
-    let Ok(run) = run(heap, from, &calls, &mut cells, &mut reads, &mut writes) else {
-        return Err(Fail::new("no run"));
-    };
+    let run = run(
+        heap,
+        from,
+        calls.iter().copied(),
+        &mut cells,
+        &mut reads,
+        &mut writes,
+    )?;
     assert_eq!(rt; run.answers.len(), CALLS.len());
     for (answer, (_, _, _, expected)) in run.answers.iter().zip(&CALLS) {
         assert_eq!(rt; shown(*answer), *expected);
@@ -79,15 +83,50 @@ fn walk_as_a_list(rt: HostRuntime) -> Result<(), Fail> {
     Ok(())
 }
 
-// A software attempt of head 0: three interrupts, and the plain policy says so.
+// Steps of head 0, of which nothing is printed.
+fn open(bench: &mut Bench) -> Result<Running, Refusal> {
+    Ok(Running::open(&mut bench.rig, 0, lists!(bench))?.handle)
+}
+
+fn read(bench: &mut Bench, handle: &Running) -> Result<i32, Refusal> {
+    handle.read(
+        &mut bench.rig,
+        0,
+        &bench.cells,
+        &mut bench.reads,
+        &bench.writes,
+    )
+}
+
+fn jolt(bench: &mut Bench, handle: &Running) -> Result<(), Refusal> {
+    handle.jolt(&mut bench.rig, lists!(bench))
+}
+
+fn again(bench: &mut Bench, handle: Running) -> Option<Running> {
+    let aborted = handle.into_aborted(&bench.rig).ok()?;
+    let begun = aborted.again(&mut bench.rig, lists!(bench)).ok()?;
+    Some(begun.handle)
+}
+
+fn drop_aborted(bench: &mut Bench, handle: Aborted) -> Result<(), Refused<Aborted>> {
+    handle.drop(&mut bench.rig, lists!(bench))
+}
+
+// By its number.
+fn drop_by_number(bench: &mut Bench) -> Result<(), Refusal> {
+    let who = Caller {
+        head: 0,
+        transaction: None,
+    };
+    bench.rig.drop(who, lists!(bench))
+}
+
+// A software attempt: three interrupts, and the plain policy says so.
 fn in_software(bench: &mut Bench) -> Option<Running> {
-    let begun = Running::open(&mut bench.rig, 0, bench.lent.lists()).ok()?;
-    let mut handle = begun.handle;
+    let mut handle = open(bench).ok()?;
     for _ in 0..3 {
-        let _ = handle.jolt(&mut bench.rig, bench.lent.lists());
-        let aborted = handle.into_aborted(&bench.rig).ok()?;
-        let begun = aborted.again(&mut bench.rig, bench.lent.lists()).ok()?;
-        handle = begun.handle;
+        let _ = jolt(bench, &handle);
+        handle = again(bench, handle)?;
     }
     Some(handle)
 }
@@ -111,64 +150,31 @@ fn kept(answer: Result<Pushed, Refused<Option<WritingBack>>>) -> Option<WritingB
 
 // A handle of a transaction that is over: 5 while its head is idle, and 12 once the head has another one.
 fn handle_of_an_ended_transaction_on<R: Abort>(rt: &R, bench: &mut Bench) -> Result<(), Fail> {
-    let Ok(old) = Running::open(&mut bench.rig, 0, bench.lent.lists()) else {
+    let Ok(old) = open(bench) else {
         return Err(Fail::new("no transaction"));
     };
-    let Err(back) = old.handle.into_aborted(&bench.rig) else {
+    let Err(back) = old.into_aborted(&bench.rig) else {
         return Err(Fail::new("exchanged, though the head had not aborted"));
     };
-    assert_eq!(rt; back.refusal.number(), 5);
+    assert_eq!(rt; back.refusal, Refusal::NotTaken);
     let old = back.handle;
-    let head = Caller {
-        head: 0,
-        transaction: None,
-    };
-    let dropped = bench.rig.drop(head, bench.lent.lists());
-    assert!(rt; dropped.is_ok());
-    let idle = old.read(
-        &mut bench.rig,
-        0,
-        &bench.cells,
-        &mut bench.reads,
-        &bench.writes,
-    );
-    let Err(refusal) = idle else {
-        return Err(Fail::new("read"));
-    };
-    assert_eq!(rt; refusal.number(), 5);
-    let Ok(new) = Running::open(&mut bench.rig, 0, bench.lent.lists()) else {
+    assert_eq!(rt; drop_by_number(bench), Ok(()));
+    assert_eq!(rt; read(bench, &old), Err(Refusal::NotTaken));
+    let Ok(new) = open(bench) else {
         return Err(Fail::new("no second transaction"));
     };
-    assert!(rt; old != new.handle);
-    let stale = old.read(
-        &mut bench.rig,
-        0,
-        &bench.cells,
-        &mut bench.reads,
-        &bench.writes,
-    );
-    let Err(refusal) = stale else {
-        return Err(Fail::new("read"));
-    };
-    assert_eq!(rt; refusal.number(), 12);
+    assert_ne!(rt; old, new);
+    assert_eq!(rt; read(bench, &old), Err(Refusal::StaleHandle));
     let Err(back) = old.into_aborted(&bench.rig) else {
         return Err(Fail::new("exchanged, though it was stale"));
     };
-    assert_eq!(rt; back.refusal.number(), 12);
-    let word = new.handle.read(
-        &mut bench.rig,
-        0,
-        &bench.cells,
-        &mut bench.reads,
-        &bench.writes,
-    );
-    assert!(rt; word.is_ok());
-    let _ = new.handle.jolt(&mut bench.rig, bench.lent.lists());
-    let Ok(aborted) = new.handle.into_aborted(&bench.rig) else {
+    assert_eq!(rt; back.refusal, Refusal::StaleHandle);
+    assert_eq!(rt; read(bench, &new), Ok(5));
+    let _ = jolt(bench, &new);
+    let Ok(aborted) = new.into_aborted(&bench.rig) else {
         return Err(Fail::new("not exchanged"));
     };
-    let given_up = aborted.drop(&mut bench.rig, bench.lent.lists());
-    assert!(rt; given_up.is_ok());
+    assert_eq!(rt; drop_aborted(bench, aborted), Ok(()));
     Ok(())
 }
 
@@ -238,7 +244,7 @@ fn handle_of_a_commit_on<R: Abort>(rt: &R, bench: &mut Bench) -> Result<(), Fail
         .rig
         .push(head, &mut bench.cells, &bench.reads, &bench.writes);
     assert!(rt; last.is_ok());
-    assert!(rt; bench.rig.lists_match(bench.lent.lists()));
+    assert!(rt; bench.rig.lists_match(lists!(bench)));
     match handle.push(
         &mut bench.rig,
         &mut bench.cells,
