@@ -84,6 +84,7 @@ uses_up NotTaken = true
 uses_up StaleHandle = true
 uses_up e = false
 
+-- a push that is not granted: why, and the handle, if it comes back
 abbrev pub not_pushed : WritingBack → Refusal → Refused (Option WritingBack)
 not_pushed h e = refused (if uses_up e then None else Some h) e
 
@@ -130,9 +131,8 @@ pub record WrittenBack {W : Type 0} (before after : Bench W) (k : ℕ) : Type 0 
   pub idle : state_at after k ≡ Idle
   pub sequence : sequence_of after ≡ sequence_of before + 1
 
--- the exchange of a running handle for an aborted one is no call: it asks for no lists, and changes nothing. By what the rig
--- keeps of the handle's head it is refused with 3 where there is no such head, then with 12, and then with 5 where the head has
--- not aborted
+-- why a caller's running handle is not exchanged for an aborted one, by what the rig keeps of its head: 3 where there is no such
+-- head, then 12, and then 5 where the head has not aborted
 abbrev pub why_not_exchanged : Caller → Option Head → Option Refusal
 why_not_exchanged who None = Some NoHead
 why_not_exchanged who (Some head) =
@@ -140,9 +140,11 @@ why_not_exchanged who (Some head) =
     then Some StaleHandle
     else (if is_aborted head.state then None else Some NotTaken)
 
+-- this, unless there is a refusal
 abbrev pub unless_refused : {A : Type 0} → A → Option Refusal → Result A Refusal
 unless_refused x None = Ok x
 unless_refused x (Some e) = Err e
 
+-- the exchange is no call: it asks for no lists, and changes nothing
 abbrev pub exchange_of : Running → Option Head → Result Aborted Refusal
 exchange_of h found = unless_refused (record { transaction = h.transaction }) (why_not_exchanged (running_caller h) found)
