@@ -1,2 +1,3 @@
 pub mod Pushing
+pub mod Told
 pub mod UsedUp

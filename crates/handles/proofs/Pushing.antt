@@ -13,7 +13,7 @@ use Rattle.rules.specs.Kit.{Kit}
 use Rattle.rules.specs.Logs.{log_of, put_in}
 use Rattle.rules.specs.Heads.{new_head, is_writing_back}
 use Rattle.rules.specs.Bench.{Bench, head_at, write_log}
-use Rattle.rules.specs.Refusals.{by_handle, is_stale, when, first_found, refusal}
+use Rattle.rules.specs.Refusals.{is_stale, when, first_found, refusal}
 use Rattle.rules.specs.Calls.{Outcome, unless, is_last, admitted_push, push_of}
 use Rattle.rules.specs.Bounds.{InBounds}
 use Rattle.rules.proofs.Basics.{by-option, by-test}
@@ -21,11 +21,13 @@ use Rattle.rules.proofs.Admitted.{Admitted, admitted}
 use Rattle.rules.proofs.KeptBounds.{bounds-kept, right_lengths_stay}
 use Rattle.rules.proofs.LogLaws.{length-log}
 use Rattle.rules.proofs.StepPush.{left-none, push-settles}
+use Rattle.rig.specs.declared.rig.Rig.{Rig}
+use Rattle.rig.specs.Rigs.{Kept}
 use Rattle.handles.specs.declared.commits.WritingBack.{WritingBack}
 use Rattle.handles.specs.declared.commits.Pushed.{Pushed}
 use Rattle.handles.specs.declared.commits.Pushed.TheVariants as pushing
 use Rattle.handles.specs.declared.refusals.Refused.{Refused}
-use Rattle.handles.specs.Handles.{after_push, after_pushes, not_pushed, left_by_pushes, pushes_of, slots_left, WrittenBack}
+use Rattle.handles.specs.Handles.{writing_back_caller, after_push, after_pushes, not_pushed, left_by_pushes, pushes_of, slots_left, WrittenBack}
 
 -- the refusal of a push, by its four tests
 abbrev refused_by : Bool → Bool → Bool → Bool → Option Refusal
@@ -174,6 +176,10 @@ module _ {W : Type 0} (who : Caller) where
         only-refused (Ok n) q = cc
         only-refused (Err y) q = cc
 
+-- what two calls keep, both of them keep together
+pub kept_on : {B P W : Type 0} {old now new : Rig B P} {a b c : Bench W} → Kept old now a b → Kept now new b c → Kept old new a c
+kept_on x y = record { board = y.board ∙ x.board; policy = y.policy ∙ x.policy; lengths = y.lengths ∙ x.lengths }
+
 -- a push by handle, taken apart
 abbrev Answered : Type 0
 Answered = Result Pushed (Refused (Option WritingBack))
@@ -209,17 +215,17 @@ module _ (h : WritingBack) where
 
 -- a push in the midst, by the handle that is held, which is the first one again
 module _ {W : Type 0} {h held : WritingBack} {start now after : Bench W} {p : ℕ} {result : Answered} (kit : Kit W) (s : InBounds start.table) (t : InBounds now.table)
-    (g : Going (by_handle h.head h.transaction) start now p) (same : held ≡ h)
-    (answer : result ≡ after_push held (push_of now (by_handle held.head held.transaction)).answer)
-    (left-by : after ≡ (push_of now (by_handle held.head held.transaction)).left) where
+    (g : Going (writing_back_caller h) start now p) (same : held ≡ h)
+    (answer : result ≡ after_push held (push_of now (writing_back_caller held)).answer)
+    (left-by : after ≡ (push_of now (writing_back_caller held)).left) where
   abbrev by : Caller
-  by = by_handle h.head h.transaction
+  by = writing_back_caller h
 
   left : after ≡ (push_of now by).left
-  left = subst (λ (x : WritingBack). after ≡ (push_of now (by_handle x.head x.transaction)).left) same left-by
+  left = subst (λ (x : WritingBack). after ≡ (push_of now (writing_back_caller x)).left) same left-by
 
   is-answer : (r : Answered) → result ≡ r → after_push h (push_of now by).answer ≡ r
-  is-answer r e = subst (λ (x : WritingBack). after_push x (push_of now (by_handle x.head x.transaction)).answer ≡ r) same (sym answer ∙ e)
+  is-answer r e = subst (λ (x : WritingBack). after_push x (push_of now (writing_back_caller x)).answer ≡ r) same (sym answer ∙ e)
 
   pub ends-refused : (r : Refused (Option WritingBack)) → result ≡ Err r → (after ≡ pushes_of start by) × (Err r ≡ after_pushes h (push_of start by).answer)
   ends-refused r q =
@@ -228,7 +234,7 @@ module _ {W : Type 0} {h held : WritingBack} {start now after : Bench W} {p : �
       (left ∙ all.0, ap Err e.2 ∙ ap (after_pushes h) (sym all.1))
 
   pub ends-done : (r : Pushed) → result ≡ Ok r → ((x : WritingBack) (n : ℕ) → r ≡ pushing.Left x n → ⊥)
-      → (after ≡ pushes_of start by) × (Ok p ≡ after_pushes h (push_of start by).answer) × WrittenBack start after h.head
+      → (after ≡ pushes_of start by) × (Ok p ≡ after_pushes h (push_of start by).answer) × WrittenBack start after (writing_back_caller h).head
   ends-done r q never =
       let all = all-done by kit start now t p g (none-left h (push_of now by).answer r (is-answer (Ok r) q) never) in
       (left ∙ all.0, done (push_of start by).answer all.1, wrote (push_of start by).answer refl all.1)
@@ -237,9 +243,9 @@ module _ {W : Type 0} {h held : WritingBack} {start now after : Bench W} {p : �
       done (Ok n) e = cc
       done (Err x) e = cc
 
-      wrote : (a : Result ℕ Refusal) → (push_of start by).answer ≡ a → raised 1 a ≡ Ok p → WrittenBack start after h.head
+      wrote : (a : Result ℕ Refusal) → (push_of start by).answer ≡ a → raised 1 a ≡ Ok p → WrittenBack start after (writing_back_caller h).head
       wrote (Ok n) same e =
-          subst (λ o. WrittenBack start o h.head) (ap (λ a. left_by_pushes (slots_left a) (push_of start by).left by) (sym same) ∙ sym (left ∙ (all-done by kit start now t p g (none-left h (push_of now by).answer r (is-answer (Ok r) q) never)).0))
+          subst (λ o. WrittenBack start o (writing_back_caller h).head) (ap (λ a. left_by_pushes (slots_left a) (push_of start by).left by) (sym same) ∙ sym (left ∙ (all-done by kit start now t p g (none-left h (push_of now by).answer r (is-answer (Ok r) q) never)).0))
           (pushes-write-back kit by n start s same)
       wrote (Err x) same e = cc
 
@@ -257,7 +263,7 @@ module _ {W : Type 0} {h held : WritingBack} {start now after : Bench W} {p : �
     where
       few : (a : Result ℕ Refusal) → (push_of start by).answer ≡ a → (m : ℕ) → raised 1 a ≡ Ok (p + suc m) → p ≤ 32
       few (Ok l) same m e =
-          let own = s.heads h.head new_head (omega (arith, (known kit by start s l same).head, s.few_heads, s.eight)) in
+          let own = s.heads by.head new_head (omega (arith, (known kit by start s l same).head, s.few_heads, s.eight)) in
           let sum : 1 + l ≡ p + suc m = cc in
-          omega (arith, sum, rest kit by start s l same, length-log h.head (head_at start h.head).write_count start.writes, own.writes)
+          omega (arith, sum, rest kit by start s l same, length-log by.head (head_at start by.head).write_count start.writes, own.writes)
       few (Err x) same m e = cc

@@ -12,7 +12,7 @@ use Rattle.rules.proofs.Basics.{by-option}
 use Rattle.handles.specs.declared.commits.WritingBack.{WritingBack}
 use Rattle.handles.specs.declared.commits.Pushed.{Pushed}
 use Rattle.handles.specs.declared.refusals.Refused.{Refused}
-use Rattle.handles.specs.Handles.{uses_up, after_push, after_pushes}
+use Rattle.handles.specs.Handles.{uses_up, after_push}
 
 -- with lists of right lengths, what can refuse a push uses its handle up
 refusal-uses-up : (missing stale other : Bool) (e : Refusal)
@@ -40,12 +40,5 @@ module _ {W : Type 0} (b : Bench W) (who : Caller) (fit : lengths_match b ≡ tr
   used_up_by_push h r e = rw e (on (push_of b who).answer refl)
     where
       on : (a : Result ℕ Refusal) → (push_of b who).answer ≡ a → IfErr (after_push h a) (λ x. x.handle ≡ None)
-      on (Ok n) q = tt
-      on (Err x) q = ap (λ t. cond t None (Some h)) (answer-uses-up x q)
-
-  pub used_up_by_pushes : (h : WritingBack) (r : Result ℕ (Refused (Option WritingBack))) → r ≡ after_pushes h (push_of b who).answer → IfErr r (λ x. x.handle ≡ None)
-  used_up_by_pushes h r e = rw e (on (push_of b who).answer refl)
-    where
-      on : (a : Result ℕ Refusal) → (push_of b who).answer ≡ a → IfErr (after_pushes h a) (λ x. x.handle ≡ None)
       on (Ok n) q = tt
       on (Err x) q = ap (λ t. cond t None (Some h)) (answer-uses-up x q)

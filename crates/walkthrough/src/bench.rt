@@ -1,12 +1,11 @@
 // A rig on the bench, with the lists that it is lent.
-ghost use Rattle.std.specs.Prelude.{◌≡◌, IfOk, true};
-ghost use Rattle.rules.specs.Bench.{bench};
-ghost use Rattle.rules.specs.Calls.{new_table};
+ghost use Rattle.std.specs.Prelude.{◌≡◌, true};
 ghost use Rattle.rules.specs.Refusals.{lengths_match};
+ghost use Rattle.rig.specs.Rigs.{rig_bench};
 
-use parts::{LinesBoard, Margin, Plain};
+use parts::{LinesBoard, Margin, Plain, Size};
 use rig::Rig;
-use rules::{Refusal, Slot};
+use rules::Slot;
 
 // Two heads over two cells of amounts. The lists always have the right lengths, so no call is refused for them.
 #[derive(Drop)]
@@ -15,20 +14,35 @@ pub(crate) struct Bench {
     pub(crate) cells: [i32; 2],
     pub(crate) reads: [Slot<i32>; 64],
     pub(crate) writes: [Slot<i32>; 64],
-    ghost lists: { lengths_match (bench rig.table cells reads writes) ≡ true },
+    ghost lists: { lengths_match (rig_bench rig cells reads writes) ≡ true },
 }
 
 impl Bench {
-    pub(crate) fn set_up(cells: [i32; 2]) -> Result<Bench, Refusal>
-        ensures { IfOk result (λ b. (b.cells ≡ cells) × (b.rig.table ≡ new_table 2 2)) }
+    ghost use Rattle.walkthrough.specs.Walk.{new_bench, on_bench};
+
+    pub(crate) fn set_up(cells: [i32; 2]) -> Bench
+        ensures { on_bench result ≡ new_bench cells }
     {
+        let size = Size { heads: 2, cells: 2 };
         let slot = Slot { cell: 0, word: 0 };
-        let rig = Rig::set_up(2, 2, Margin { below: LinesBoard }, Plain)?;
-        Ok(Bench {
-            rig,
+        Bench {
+            rig: Rig::new(size, Margin { below: LinesBoard }, Plain),
             cells,
             reads: [slot; 64],
             writes: [slot; 64],
-        })
+        }
     }
 }
+
+// The lists of a bench, for a call that changes none of them. A macro, since a method would borrow the rig with them.
+macro_rules! lists {
+    ($bench:expr) => {
+        rules::Lists {
+            cells: &$bench.cells,
+            reads: &$bench.reads,
+            writes: &$bench.writes,
+        }
+    };
+}
+
+pub(crate) use lists;

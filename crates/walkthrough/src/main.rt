@@ -9,7 +9,7 @@ use crate::bench::Bench;
 use crate::stopped::Stopped;
 
 fn walk(rt: &HostRuntime) -> Result<(), Stopped> {
-    let mut bench = Bench::set_up([1450, 1120])?;
+    let mut bench = Bench::set_up([1450, 1120]);
 
     // head 1 stores to a line that head 0 has read, which aborts head 0
     let reader = bench.open(rt, 0)?;

@@ -1,13 +1,12 @@
 // Single steps, each printed. The handle that a step needs is moved into it, or lent, as the call by handle wants it.
-ghost use Rattle.std.specs.Prelude.{◌≡◌, ◌+◌, IfOk};
-ghost use Rattle.rules.specs.Bench.{head_at};
+ghost use Rattle.std.specs.Prelude.{◌≡◌, IfOk};
 ghost use Rattle.rules.specs.Calls.{open_of, read_of, write_of, jolt_of, again_of, drop_of, push_of};
 ghost use Rattle.rules.specs.Examples.{on_lines};
-ghost use Rattle.rules.specs.Refusals.{by_handle, by_number};
-ghost use Rattle.handles.specs.Handles.{WrittenBack, pushes_of, slots_left};
-ghost use Rattle.walkthrough.specs.Walk.{committed, mode_text, on_bench};
+ghost use Rattle.rules.specs.Refusals.{by_number};
+ghost use Rattle.handles.specs.Handles.{running_caller, writing_back_caller, IsNumbered, WrittenBack, pushes_of};
+ghost use Rattle.walkthrough.specs.Walk.{committed, mode_text, on_bench, pushes_told};
 
-use crate::bench::Bench;
+use crate::bench::{Bench, lists};
 use crate::stopped::Stopped;
 use handles::{Closed, Refused, Running, WritingBack};
 use parts::Mode;
@@ -24,11 +23,11 @@ fn mode_word(mode: Mode) -> &'static str
 
 impl Bench {
     pub(crate) fn open(&mut self, rt: &HostRuntime, head: u32) -> Result<Running, Stopped>
-        ensures handle { IfOk result (λ h. (h.head ≡ head) × ((head_at (on_bench self.new) head).transaction ≡ h.transaction)) }
+        ensures handle { IfOk result (λ h. ((running_caller h).head ≡ head) × IsNumbered (on_bench self.new) (running_caller h)) }
         ensures left { on_bench self.new ≡ (open_of (on_bench self.old) (by_number head)).left }
-        ensures cells { self.new.cells ≡ self.old.cells }
+        ensures cells { (on_bench self.new).cells ≡ (on_bench self.old).cells }
     {
-        let begun = Running::open(&mut self.rig, head, &self.cells, &self.reads, &self.writes)?;
+        let begun = Running::open(&mut self.rig, head, lists!(self))?;
         println!(rt;
             "head {head} opens a transaction in {}",
             mode_word(begun.mode)
@@ -44,8 +43,8 @@ impl Bench {
         cell: u32,
     ) -> Result<(), Stopped>
         ensures left { on_bench self.new
-            ≡ (read_of on_lines.memory (on_bench self.old) (by_handle handle.now.head handle.now.transaction) cell).left }
-        ensures cells { self.new.cells ≡ self.old.cells }
+            ≡ (read_of on_lines.memory (on_bench self.old) (running_caller handle.now) cell).left }
+        ensures cells { (on_bench self.new).cells ≡ (on_bench self.old).cells }
     {
         match handle.read(
             &mut self.rig,
@@ -72,8 +71,8 @@ impl Bench {
         word: i32,
     ) -> Result<(), Stopped>
         ensures left { on_bench self.new
-            ≡ (write_of on_lines.memory (on_bench self.old) (by_handle handle.now.head handle.now.transaction) cell word).left }
-        ensures cells { self.new.cells ≡ self.old.cells }
+            ≡ (write_of on_lines.memory (on_bench self.old) (running_caller handle.now) cell word).left }
+        ensures cells { (on_bench self.new).cells ≡ (on_bench self.old).cells }
     {
         handle.write(
             &mut self.rig,
@@ -95,11 +94,10 @@ impl Bench {
         handle: &Running,
     ) -> Result<(), Stopped>
         ensures left { on_bench self.new
-            ≡ (jolt_of (on_bench self.old) (by_handle handle.now.head handle.now.transaction)).left }
-        ensures cells { self.new.cells ≡ self.old.cells }
+            ≡ (jolt_of (on_bench self.old) (running_caller handle.now)).left }
+        ensures cells { (on_bench self.new).cells ≡ (on_bench self.old).cells }
     {
-        let answer = handle.jolt(&mut self.rig, &self.cells, &self.reads, &self.writes);
-        if let Err(refusal) = answer {
+        if let Err(refusal) = handle.jolt(&mut self.rig, lists!(self)) {
             println!(rt;
                 "head {head} is interrupted, and is refused with {}",
                 refusal.number()
@@ -115,22 +113,21 @@ impl Bench {
         head: u32,
         handle: Running,
     ) -> Result<Running, Stopped>
-        ensures handle { IfOk result (λ h. (h.head ≡ handle.head) × (h.transaction ≡ handle.transaction)) }
-        ensures left { let who = by_handle handle.head handle.transaction in
-            IfOk result (λ _. on_bench self.new ≡ (again_of on_lines.policy (on_bench self.old) who).left) }
-        ensures cells { self.new.cells ≡ self.old.cells }
+        ensures handle { IfOk result (λ h. running_caller h ≡ running_caller handle) }
+        ensures left { on_bench self.new ≡ (again_of on_lines.policy (on_bench self.old) (running_caller handle)).left }
+        ensures cells { (on_bench self.new).cells ≡ (on_bench self.old).cells }
     {
         let aborted = handle.into_aborted(&self.rig)?;
-        let begun = aborted.again(&mut self.rig, &self.cells, &self.reads, &self.writes)?;
+        let begun = aborted.again(&mut self.rig, lists!(self))?;
         println!(rt; "head {head} tries again in {}", mode_word(begun.mode))?;
         Ok(begun.handle)
     }
 
     // Pushes until no slot is left. With lists of the right lengths even a refusal leaves no handle to be forgotten.
     pub(crate) fn finish(&mut self, handle: WritingBack) -> Result<u8, Refusal>
-        ensures pushes { let who = by_handle handle.head handle.transaction in
-            IfOk result (λ n. (n ≡ 1 + slots_left (push_of (on_bench self.old) who).answer) × (on_bench self.new ≡ pushes_of (on_bench self.old) who)) }
-        ensures written_back { IfOk result (λ _. WrittenBack (on_bench self.old) (on_bench self.new) handle.head) }
+        ensures answer { result ≡ pushes_told (push_of (on_bench self.old) (writing_back_caller handle)).answer }
+        ensures left { on_bench self.new ≡ pushes_of (on_bench self.old) (writing_back_caller handle) }
+        ensures written_back { IfOk result (λ _. WrittenBack (on_bench self.old) (on_bench self.new) (writing_back_caller handle).head) }
     {
         match handle.push_all(&mut self.rig, &mut self.cells, &self.reads, &self.writes) {
             Ok(pushes) => Ok(pushes),
@@ -145,8 +142,7 @@ impl Bench {
         head: u32,
         handle: Running,
     ) -> Result<(), Stopped>
-        ensures { let who = by_handle handle.head handle.transaction in
-            IfOk result (λ _. on_bench self.new ≡ committed (on_bench self.old) who) }
+        ensures { on_bench self.new ≡ committed (on_bench self.old) (running_caller handle) }
     {
         match handle.close(&mut self.rig, &mut self.cells, &self.reads, &self.writes)? {
             Closed::Complete(attempts) => {
@@ -169,10 +165,10 @@ impl Bench {
         handle: Running,
     ) -> Result<(), Stopped>
         ensures left { on_bench self.new
-            ≡ (drop_of (on_bench self.old) (by_handle handle.head handle.transaction)).left }
-        ensures cells { self.new.cells ≡ self.old.cells }
+            ≡ (drop_of (on_bench self.old) (running_caller handle)).left }
+        ensures cells { (on_bench self.new).cells ≡ (on_bench self.old).cells }
     {
-        handle.drop(&mut self.rig, &self.cells, &self.reads, &self.writes)?;
+        handle.drop(&mut self.rig, lists!(self))?;
         println!(rt; "head {head} drops its transaction")?;
         Ok(())
     }

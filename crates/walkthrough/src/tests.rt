@@ -1,7 +1,7 @@
 // Calls by handle, one at a time and as a list.
-use crate::bench::Bench;
-use handles::{Closed, Pushed, Refused, Running, WritingBack};
-use parts::{Call, LinesBoard, Margin, Plain};
+use crate::bench::{Bench, lists};
+use handles::{Aborted, Closed, Pushed, Refused, Running, WritingBack};
+use parts::{Call, LinesBoard, Margin, Plain, Size};
 use rules::{Caller, Closing, Granted, LentLists, MadeCall, Refusal, Slot};
 use runs::{Answer, SetUp, run};
 use std::process::Abort;
@@ -63,14 +63,18 @@ fn walk_as_a_list(rt: HostRuntime) -> Result<(), Fail> {
         })?;
     }
     let from = SetUp {
-        heads: 2,
-        cells: 2,
+        size: Size { heads: 2, cells: 2 },
         board: Margin { below: LinesBoard },
         policy: Plain,
     };
-    let Ok(run) = run(heap, from, &calls, &mut cells, &mut reads, &mut writes) else {
-        return Err(Fail::new("no run"));
-    };
+    let run = run(
+        heap,
+        from,
+        calls.iter().copied(),
+        &mut cells,
+        &mut reads,
+        &mut writes,
+    )?;
     assert_eq!(rt; run.answers.len(), CALLS.len());
     for (answer, (_, _, _, expected)) in run.answers.iter().zip(&CALLS) {
         assert_eq!(rt; shown(*answer), *expected);
@@ -79,19 +83,60 @@ fn walk_as_a_list(rt: HostRuntime) -> Result<(), Fail> {
     Ok(())
 }
 
-// A software attempt of head 0: three interrupts, and the plain policy says so.
+// Steps of head 0, of which nothing is printed.
+fn open(bench: &mut Bench) -> Result<Running, Refusal> {
+    Ok(Running::open(&mut bench.rig, 0, lists!(bench))?.handle)
+}
+
+fn read(bench: &mut Bench, handle: &Running) -> Result<i32, Refusal> {
+    handle.read(
+        &mut bench.rig,
+        0,
+        &bench.cells,
+        &mut bench.reads,
+        &bench.writes,
+    )
+}
+
+fn jolt(bench: &mut Bench, handle: &Running) -> Result<(), Refusal> {
+    handle.jolt(&mut bench.rig, lists!(bench))
+}
+
+fn again(bench: &mut Bench, handle: Running) -> Option<Running> {
+    let aborted = handle.into_aborted(&bench.rig).ok()?;
+    let begun = aborted.again(&mut bench.rig, lists!(bench)).ok()?;
+    Some(begun.handle)
+}
+
+fn drop_aborted(bench: &mut Bench, handle: Aborted) -> Result<(), Refused<Aborted>> {
+    handle.drop(&mut bench.rig, lists!(bench))
+}
+
+// By its number.
+fn drop_by_number(bench: &mut Bench) -> Result<(), Refusal> {
+    let who = Caller {
+        head: 0,
+        transaction: None,
+    };
+    bench.rig.drop(who, lists!(bench))
+}
+
+// A software attempt: three interrupts, and the plain policy says so.
 fn in_software(bench: &mut Bench) -> Option<Running> {
-    let begun = Running::open(&mut bench.rig, 0, &bench.cells, &bench.reads, &bench.writes).ok()?;
-    let mut handle = begun.handle;
+    let mut handle = open(bench).ok()?;
     for _ in 0..3 {
-        let _ = handle.jolt(&mut bench.rig, &bench.cells, &bench.reads, &bench.writes);
-        let aborted = handle.into_aborted(&bench.rig).ok()?;
-        let begun = aborted
-            .again(&mut bench.rig, &bench.cells, &bench.reads, &bench.writes)
-            .ok()?;
-        handle = begun.handle;
+        let _ = jolt(bench, &handle);
+        handle = again(bench, handle)?;
     }
     Some(handle)
+}
+
+// The number and the value of a push.
+fn told(answer: &Result<Pushed, Refused<Option<WritingBack>>>) -> (u8, u8) {
+    match answer {
+        Ok(pushed) => (pushed.number(), pushed.value()),
+        Err(refused) => (refused.refusal.number(), 0),
+    }
 }
 
 // A handle that comes back from a push, whether it was granted or not.
@@ -105,67 +150,31 @@ fn kept(answer: Result<Pushed, Refused<Option<WritingBack>>>) -> Option<WritingB
 
 // A handle of a transaction that is over: 5 while its head is idle, and 12 once the head has another one.
 fn handle_of_an_ended_transaction_on<R: Abort>(rt: &R, bench: &mut Bench) -> Result<(), Fail> {
-    let Ok(old) = Running::open(&mut bench.rig, 0, &bench.cells, &bench.reads, &bench.writes) else {
+    let Ok(old) = open(bench) else {
         return Err(Fail::new("no transaction"));
     };
-    let Err(back) = old.handle.into_aborted(&bench.rig) else {
+    let Err(back) = old.into_aborted(&bench.rig) else {
         return Err(Fail::new("exchanged, though the head had not aborted"));
     };
-    assert_eq!(rt; back.refusal.number(), 5);
+    assert_eq!(rt; back.refusal, Refusal::NotTaken);
     let old = back.handle;
-    let head = Caller {
-        head: 0,
-        transaction: None,
-    };
-    let dropped = bench
-        .rig
-        .drop(head, &bench.cells, &bench.reads, &bench.writes);
-    assert!(rt; dropped.is_ok());
-    let idle = old.read(
-        &mut bench.rig,
-        0,
-        &bench.cells,
-        &mut bench.reads,
-        &bench.writes,
-    );
-    let Err(refusal) = idle else {
-        return Err(Fail::new("read"));
-    };
-    assert_eq!(rt; refusal.number(), 5);
-    let Ok(new) = Running::open(&mut bench.rig, 0, &bench.cells, &bench.reads, &bench.writes) else {
+    assert_eq!(rt; drop_by_number(bench), Ok(()));
+    assert_eq!(rt; read(bench, &old), Err(Refusal::NotTaken));
+    let Ok(new) = open(bench) else {
         return Err(Fail::new("no second transaction"));
     };
-    let stale = old.read(
-        &mut bench.rig,
-        0,
-        &bench.cells,
-        &mut bench.reads,
-        &bench.writes,
-    );
-    let Err(refusal) = stale else {
-        return Err(Fail::new("read"));
-    };
-    assert_eq!(rt; refusal.number(), 12);
+    assert_ne!(rt; old, new);
+    assert_eq!(rt; read(bench, &old), Err(Refusal::StaleHandle));
     let Err(back) = old.into_aborted(&bench.rig) else {
         return Err(Fail::new("exchanged, though it was stale"));
     };
-    assert_eq!(rt; back.refusal.number(), 12);
-    let word = new.handle.read(
-        &mut bench.rig,
-        0,
-        &bench.cells,
-        &mut bench.reads,
-        &bench.writes,
-    );
-    assert!(rt; word.is_ok());
-    let _ = new
-        .handle
-        .jolt(&mut bench.rig, &bench.cells, &bench.reads, &bench.writes);
-    let Ok(aborted) = new.handle.into_aborted(&bench.rig) else {
+    assert_eq!(rt; back.refusal, Refusal::StaleHandle);
+    assert_eq!(rt; read(bench, &new), Ok(5));
+    let _ = jolt(bench, &new);
+    let Ok(aborted) = new.into_aborted(&bench.rig) else {
         return Err(Fail::new("not exchanged"));
     };
-    let given_up = aborted.drop(&mut bench.rig, &bench.cells, &bench.reads, &bench.writes);
-    assert!(rt; given_up.is_ok());
+    assert_eq!(rt; drop_aborted(bench, aborted), Ok(()));
     Ok(())
 }
 
@@ -185,15 +194,18 @@ fn handle_of_a_commit_on<R: Abort>(rt: &R, bench: &mut Bench) -> Result<(), Fail
         );
         assert!(rt; written.is_ok());
     }
-    let Ok(Closed::WritingBack(handle, attempts)) = handle.close(
+    let Ok(closed) = handle.close(
         &mut bench.rig,
         &mut bench.cells,
         &bench.reads,
         &bench.writes,
     ) else {
+        return Err(Fail::new("not closed"));
+    };
+    assert_eq!(rt; (closed.number(), closed.value()), (1, 4));
+    let Closed::WritingBack(handle, _) = closed else {
         return Err(Fail::new("nothing to push"));
     };
-    assert_eq!(rt; attempts, 4);
     let none: [Slot<i32>; 0] = [];
     let handle = match handle.push(&mut bench.rig, &mut bench.cells, &none, &bench.writes) {
         Err(
@@ -213,12 +225,14 @@ fn handle_of_a_commit_on<R: Abort>(rt: &R, bench: &mut Bench) -> Result<(), Fail
         }
     };
     assert_eq!(rt; bench.cells, [5, 7]);
-    let Some(handle) = kept(handle.push(
+    let first = handle.push(
         &mut bench.rig,
         &mut bench.cells,
         &bench.reads,
         &bench.writes,
-    )) else {
+    );
+    assert_eq!(rt; told(&first), (0, 1));
+    let Some(handle) = kept(first) else {
         return Err(Fail::new("no slot left after one push of two"));
     };
     assert_eq!(rt; bench.cells, [9, 7]);
@@ -230,11 +244,7 @@ fn handle_of_a_commit_on<R: Abort>(rt: &R, bench: &mut Bench) -> Result<(), Fail
         .rig
         .push(head, &mut bench.cells, &bench.reads, &bench.writes);
     assert!(rt; last.is_ok());
-    assert!(rt;
-        bench
-            .rig
-            .lists_match(&bench.cells, &bench.reads, &bench.writes)
-    );
+    assert!(rt; bench.rig.lists_match(lists!(bench)));
     match handle.push(
         &mut bench.rig,
         &mut bench.cells,
@@ -266,16 +276,23 @@ fn handle_of_a_commit_on<R: Abort>(rt: &R, bench: &mut Bench) -> Result<(), Fail
 
 #[test]
 fn handle_of_an_ended_transaction(rt: HostRuntime) -> Result<(), Fail> {
-    let Ok(mut bench) = Bench::set_up([5, 7]) else {
-        return Err(Fail::new("no rig"));
-    };
+    let mut bench = Bench::set_up([5, 7]);
     handle_of_an_ended_transaction_on(&rt, &mut bench)
 }
 
 #[test]
 fn handle_of_a_commit(rt: HostRuntime) -> Result<(), Fail> {
-    let Ok(mut bench) = Bench::set_up([5, 7]) else {
-        return Err(Fail::new("no rig"));
-    };
+    let mut bench = Bench::set_up([5, 7]);
     handle_of_a_commit_on(&rt, &mut bench)
+}
+
+#[test]
+fn refused_handle_prints_as_its_refusal(rt: HostRuntime) -> Result<(), Fail> {
+    let refused = Refused {
+        refusal: Refusal::StaleHandle,
+        handle: (),
+    };
+    let text = format!(in rt.alloc(); "{refused}")?;
+    assert_eq!(rt; text.as_str(), "the handle's transaction is not its head's");
+    Ok(())
 }
