@@ -5,6 +5,7 @@ use std::io;
 use std::io::{ErrorKind, Read};
 
 static TEXT: &[u8] = b"rig\t1\t1\tlines\no\t0";
+
 static SHEET: &[u8] = b"o\t0\t0\t1\ncell\t0\t0\n";
 
 #[derive(Drop)]
@@ -34,7 +35,8 @@ fn writer_fails(rt: HostRuntime) {
         let mut held = [0u8; 32];
         let mut room = &mut held[..size];
         let written = print_run_sheet(rt.alloc(), TEXT, &mut room);
-        let full = matches!(&written, Err(StreamError::NotWritten(e)) if e.kind() == ErrorKind::WriteZero);
+        let full =
+            matches!(&written, Err(StreamError::NotWritten(e)) if e.kind() == ErrorKind::WriteZero);
         assert_eq!(rt; full, size < SHEET.len());
         assert_eq!(rt; written.is_ok(), size == SHEET.len());
         assert_eq!(rt; &held[..size], &SHEET[..size]);
