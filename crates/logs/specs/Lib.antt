@@ -1,4 +1,4 @@
 pub mod Growth
-pub mod Grows
+pub mod LogMuts
 pub mod Lines
 pub mod Validations

@@ -26,7 +26,7 @@ fn replace<W: Word>(slots: &mut [Slot<W>], place: usize, slot: Slot<W>)
 }
 
 impl<'a, W: Word> LogMut<'a, W> {
-    ghost use Rattle.logs.specs.Grows.{part_in, log_in, grown_to, IsOver, StaysOver};
+    ghost use Rattle.logs.specs.LogMuts.{part_in, log_in, grown_to, IsOver, StaysOver};
 
     /// The log that is the first `count` slots of the part, as far as it can have so many.
     pub fn new(part: &'a mut [Slot<W>], count: u8) -> LogMut<'a, W>

@@ -1,8 +1,8 @@
 // Value-based validation, for every kind of word.
 ghost use Rattle.std.specs.Prelude.{◌≡◌, ◌≤◌, length, nat_lt, if◌then◌else◌};
-ghost use Rattle.std.specs.List.{prefix_len};
-ghost use Rattle.rules.specs.Logs.{holds};
-ghost use Rattle.logs.specs.Validations.{Validated};
+ghost use Rattle.std.specs.List.{list_all, prefix_len};
+ghost use Rattle.rules.specs.Logs.{holds, cells_loaded};
+ghost use Rattle.logs.specs.Validations.{Finds};
 
 use crate::log::Log;
 use parts::Word;
@@ -57,7 +57,7 @@ fn cells_there<W: Word>(cells: &[W], slot: &Slot<W>) -> usize
 /// not loaded.
 #[tactic(auto, using(crate::proofs::Validated::all_hold, crate::proofs::Validated::all_loaded, crate::proofs::Validated::some_changed, crate::proofs::Validated::first_loaded))]
 pub fn validate<'a, W: Word>(cells: &[W], log: &Log<'a, W>) -> Validation<'a, W>
-    ensures { Validated W.Word.same cells.now log.now result }
+    ensures { Finds (list_all (holds W.Word.same cells.now) log.now) (cells_loaded W.Word.same cells.now log.now) result }
 {
     let held = unchanged(cells, log);
     if held >= log.len() {

@@ -8,4 +8,4 @@ mod ReadRows
 mod ReadSteps
 mod Refused
 mod WriteSteps
-mod Transitions
+mod Admitted

@@ -3,4 +3,3 @@ pub mod Admission
 pub mod Rigs
 pub mod Stores
 pub mod Transitions
-pub mod Validations

@@ -44,8 +44,7 @@ module _ {B P : Type 0} where
   -- the rig is as set-up makes it
   pub record IsNew (heads cells : ℕ) (on : B) (under : P) (rig : Rig B P) : Type 0 where
     pub table : rig.table ≡ new_table heads cells
-    pub board : rig.board ≡ on
-    pub policy : rig.policy ≡ under
+    pub over : IsOver on under rig
 
   -- a rig is set up, or refused, as the rule book says
   abbrev pub SetUpAs : ℕ → ℕ → B → P → Result (Rig B P) Refusal → Type 0

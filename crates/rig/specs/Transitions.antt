@@ -1,28 +1,29 @@
--- What a call does in each state that takes it.
-use Rattle.std.specs.Prelude.{ℕ, Ok, Err, Result}
+-- What a call does, by the head's state.
+use Rattle.std.specs.Prelude.{◌≡◌, ℕ, true, false, Ok, Err, Result}
 use Rattle.parts.specs.declared.calls.Call.{Call}
 use Rattle.parts.specs.declared.calls.Call.TheVariants.{Open, Read, Write, Close, Push, Jolt, Again, Drop}
-use Rattle.parts.specs.declared.types.Mode.TheVariants as mode
 use Rattle.rules.specs.declared.types.Refusal.{Refusal}
 use Rattle.rules.specs.declared.types.State.{State}
-use Rattle.rules.specs.declared.types.State.TheVariants.{Idle, Hardware, Software, Aborted, WritingBack}
-use Rattle.rules.specs.Refusals.{why_not}
+use Rattle.rules.specs.declared.types.State.TheVariants.{Aborted}
+use Rattle.rules.specs.Heads.{state_in}
+use Rattle.rules.specs.Refusals.{takes, why_not}
 use Rattle.rig.specs.declared.admission.Transition.{Transition}
 use Rattle.rig.specs.declared.admission.Transition.TheVariants as does
 
--- in every other state the call is refused
-abbrev pub transition : {W : Type 0} → State → Call ℕ W → Result (Transition W) Refusal
-transition Idle Open = Ok does.Open
-transition Hardware (Read c) = Ok (does.Read mode.Hardware c)
-transition Software (Read c) = Ok (does.Read mode.Software c)
-transition Hardware (Write c w) = Ok (does.Write mode.Hardware c w)
-transition Software (Write c w) = Ok (does.Write mode.Software c w)
-transition Hardware Close = Ok (does.Close mode.Hardware)
-transition Software Close = Ok (does.Close mode.Software)
-transition WritingBack Push = Ok does.Push
-transition Hardware Jolt = Ok does.Jolt
-transition (Aborted cause) Again = Ok (does.Again cause)
-transition Hardware Drop = Ok does.Drop
-transition Software Drop = Ok does.Drop
-transition (Aborted cause) Drop = Ok does.Drop
-transition s call = Err (why_not call s)
+module _ {W : Type 0} (s : State) where
+  -- it is the call's: with the cell and the word of the call, and with how the attempt runs or by what it has aborted
+  abbrev pub Tells : Call ℕ W → Transition W → Type 0
+  Tells Open does.Open = Unit {0}
+  Tells (Read c) (does.Read m d) = (s ≡ state_in m) × (d ≡ c)
+  Tells (Write c w) (does.Write m d v) = (s ≡ state_in m) × ((d ≡ c) × (v ≡ w))
+  Tells Close (does.Close m) = s ≡ state_in m
+  Tells Push does.Push = Unit {0}
+  Tells Jolt does.Jolt = Unit {0}
+  Tells Again (does.Again cause) = s ≡ Aborted cause
+  Tells Drop does.Drop = Unit {0}
+  Tells call t = ⊥
+
+  -- the state takes the call, or the call is refused
+  abbrev pub Decides : Call ℕ W → Result (Transition W) Refusal → Type 0
+  Decides call (Ok t) = (takes call s ≡ true) × Tells call t
+  Decides call (Err e) = (takes call s ≡ false) × (e ≡ why_not call s)

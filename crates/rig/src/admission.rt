@@ -5,7 +5,7 @@ ghost use Rattle.parts.specs.declared.sizes.TheConstants.{MOST_HEADS};
 ghost use Rattle.rules.specs.Bounds.{InBounds};
 ghost use Rattle.rules.specs.Refusals.{is_beyond, is_stale, lengths_match, refusal};
 ghost use Rattle.rig.specs.Admission.{Admits};
-ghost use Rattle.rig.specs.Transitions.{transition};
+ghost use Rattle.rig.specs.Transitions.{Decides, Tells};
 
 use parts::{Call, Cause, Mode, Word};
 use rules::{Caller, Head, Lists, Refusal, SLOTS, State, Table};
@@ -66,7 +66,7 @@ pub(crate) struct Admitted<W> {
 
 // The one match on a head's state and a call.
 fn decide<W: Word>(state: State, call: Call<u32, W>) -> Result<Transition<W>, Refusal>
-    ensures { result ≡ transition state call }
+    ensures { Decides state call result }
 {
     match (state, call) {
         (State::Idle, Call::Open) => Ok(Transition::Open),
@@ -107,7 +107,6 @@ fn decide<W: Word>(state: State, call: Call<u32, W>) -> Result<Transition<W>, Re
 
 // The head that calls, and what the call does, unless a list has a wrong length, there is no such head or cell, the handle
 // is stale, or the head's state does not take the call.
-#[tactic(auto, using(crate::proofs::Transitions::not_taken, crate::proofs::Transitions::why_refused))]
 pub(crate) fn admit<W: Word>(
     table: &Table,
     who: Caller,
@@ -117,7 +116,7 @@ pub(crate) fn admit<W: Word>(
     requires { InBounds table.now }
     ensures refused { IfErr result (λ e. refusal (bench_with table.now lists.entry) who call ≡ Some e) }
     ensures known { IfOk result (λ a. Admits (bench_with table.now lists.entry) who call a.head) }
-    ensures transition { IfOk result (λ a. transition a.head.state call ≡ Ok a.transition) }
+    ensures transition { IfOk result (λ a. Tells a.head.state call a.transition) }
 {
     if !lengths_match(table, lists) {
         return Err(Refusal::Lists);

@@ -1,6 +1,5 @@
 // The rig and its public calls.
 ghost use Rattle.std.specs.Prelude.{◌≡◌};
-ghost use Rattle.parts.specs.declared.types.Mode.{Mode as Modes};
 ghost use Rattle.rules.specs.Bounds.{InBounds};
 ghost use Rattle.rules.specs.Refusals.{lengths_match};
 ghost use Rattle.rules.specs.Calls.{outcome, open_of, push_of, jolt_of, drop_of};

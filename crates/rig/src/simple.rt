@@ -1,6 +1,5 @@
 // The calls that look into no log: open, jolt, again and drop.
 ghost use Rattle.std.specs.Prelude.{◌≡◌};
-ghost use Rattle.parts.specs.declared.types.Mode.{Mode as Modes};
 ghost use Rattle.rules.specs.Bench.{bench_with};
 ghost use Rattle.rules.specs.Bounds.{InBounds};
 ghost use Rattle.rules.specs.Kit.{retries_of};

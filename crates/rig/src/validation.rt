@@ -1,10 +1,10 @@
 // Validation of what a software attempt has read.
 ghost use Rattle.std.specs.Prelude.{◌≡◌, ◌<◌, length};
 ghost use Rattle.rules.specs.Kit.{Memory};
-ghost use Rattle.rules.specs.Bench.{bench_with};
+ghost use Rattle.rules.specs.Bench.{bench_with, is_valid, cells_validated};
 ghost use Rattle.parts.specs.declared.sizes.TheConstants.{MOST_HEADS};
 ghost use Rattle.rules.specs.declared.limits.TheConstants.{RECORDS};
-ghost use Rattle.rig.specs.Validations.{Revalidated};
+ghost use Rattle.logs.specs.Validations.{Finds};
 
 use crate::heads::present_snapshot;
 use logs::{Log, Validation, validate};
@@ -19,7 +19,7 @@ pub(crate) fn revalidate<'a, W: Word>(
 ) -> Validation<'a, W>
     requires records { length table.now.heads ≡ RECORDS }
     requires head { head < MOST_HEADS }
-    ensures { (memory : Memory W) → memory.same ≡ W.Word.same → Revalidated memory (bench_with table.now lists.entry) head result }
+    ensures { (memory : Memory W) → memory.same ≡ W.Word.same → let b = bench_with table.now lists.entry in Finds (is_valid memory b head) (cells_validated memory b head) result }
 {
     let me = table.heads[head as usize];
     let log = Log::of_head(lists.reads, head, me.read_count);

@@ -1,7 +1,7 @@
 use Rattle.std.proofs.Common.{◌≡◌, eqb, Some, None, ap, sym, ◌∙◌}
 use Rattle.std.specs.List.{position}
 use Rattle.rules.specs.declared.types.Slot.{Slot}
-use Rattle.logs.specs.Grows.{log_in}
+use Rattle.logs.specs.LogMuts.{log_in}
 use Rattle.logs.proofs.Placed.{put_found, put_new}
 use Rattle.logs.proofs.growing.LogMut.put.Goals as goal
 
