@@ -19,5 +19,5 @@ returns-clause-ran g c =
     let ran = c.make_all-count in
     ran-from (kit from.board from.policy) law from.size.heads from.size.cells c.args.cells.now c.args.reads.now c.args.writes.now (take ran.result (g.C.Calls.made c.args.calls))
     rig.table (kit rig.board rig.policy) _ (rig_bench ran.new.rig ran.new.cells ran.new.reads ran.new.writes) from.size.good new.table
-    (ap (λ x. kit x rig.policy) new.board ∙ ap (kit from.board) new.policy)
+    (ap (λ x. kit x rig.policy) new.over.board ∙ ap (kit from.board) new.over.policy)
     ran.ensures.answers ran.ensures.left
