@@ -95,7 +95,7 @@ module _ {W : Type 0} (b : Bench W) (who : Caller) (call : Call ℕ W) where
   admits bounds match lt cells reads writes fresh near t e =
       let take = taken me.state call t e in
       let few = bounds.few_heads in
-      let eight = bounds.eight in
+      let records = bounds.records in
       let there : leb b.table.head_count who.head ≡ false = lt-leb b.table.head_count who.head lt in
       record {
         own = refl;

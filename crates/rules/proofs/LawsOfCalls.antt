@@ -166,7 +166,7 @@ pub aborts-tell-their-cause : {W : Type 0} (kit : Kit W) → AbortsTellTheirCaus
 aborts-tell-their-cause {W} kit b who call cause bounds is =
     by_call kit b who call (Told who.head cause)
     (λ e r q. refusal-told b who call cause (r ∙ ap Some cc))
-    (λ none. granted-told kit b who.head cause (let a = admitted b who call none in omega (arith, a.head, bounds.few_heads, bounds.eight)) call) is
+    (λ none. granted-told kit b who.head cause (let a = admitted b who call none in omega (arith, a.head, bounds.few_heads, bounds.records)) call) is
 
 -- the first row that refuses is the refusal
 when-first : (t : Bool) (e : Refusal) (rows : List (Option Refusal)) → t ≡ true → first_found (when t e ∷ rows) ≡ Some e
@@ -266,7 +266,7 @@ open-takes-next-number {W} kit b who g bounds e =
     (λ (r : Answer W × Bench W). r.0 ≡ Ok g → ((head_at r.1 who.head).transaction ≡ b.table.opened + 1) × (r.1.table.opened ≡ b.table.opened + 1))
     (λ e _ q. cc)
     (λ q _. let a = admitted b who Open q in
-    (ap (λ (h : Head). h.transaction) (get_or-set_same b.table.heads who.head _ new_head (omega (arith, a.head, bounds.few_heads, bounds.eight))), refl)) e
+    (ap (λ (h : Head). h.transaction) (get_or-set_same b.table.heads who.head _ new_head (omega (arith, a.head, bounds.few_heads, bounds.records))), refl)) e
 
 -- the numbers of all heads, and how many were given, are as before
 abbrev SameNumbers : {W : Type 0} → Bench W → Bench W → Type 0
@@ -306,7 +306,7 @@ module _ {W : Type 0} (kit : Kit W) (b : Bench W) (bounds : InBounds b.table) (w
   k = who.head
 
   own-bounds : k < b.table.head_count → HeadBounds (head_at b k)
-  own-bounds lt = bounds.heads k new_head (omega (arith, lt, bounds.few_heads, bounds.eight))
+  own-bounds lt = bounds.heads k new_head (omega (arith, lt, bounds.few_heads, bounds.records))
 
   slots-kept : (call : Call ℕ W) → Admitted b who call → SameSlots j b (admitted_of kit b k call).1
   slots-kept (Read c) a =

@@ -20,10 +20,10 @@ use Rattle.rules.proofs.Seats.{Seat, abort_seat, struck_by, locked, seat_at, vie
 -- a head of the rig, the lists of right length
 module _ {W : Type 0} (b : Bench W) (bounds : InBounds b.table) (lists : Sized b) (k : ℕ) (lt : k < b.table.head_count) where
   pub head-bounds : HeadBounds (head_at b k)
-  head-bounds = All-get_or HeadBounds b.table.heads k new_head (omega (arith, bounds.eight, bounds.few_heads, lt)) bounds.heads
+  head-bounds = All-get_or HeadBounds b.table.heads k new_head (omega (arith, bounds.records, bounds.few_heads, lt)) bounds.heads
 
   pub seat-there : slice_get (view b).heads k ≡ Some (seat_of b k)
-  seat-there = own-seat b k lt (omega (arith, bounds.eight, bounds.few_heads))
+  seat-there = own-seat b k lt (omega (arith, bounds.records, bounds.few_heads))
 
   pub read-room : 32 * k + 32 ≤ length b.reads
   read-room = omega (arith, lists.reads, lt)
