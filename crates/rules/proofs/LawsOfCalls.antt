@@ -6,6 +6,7 @@ use Rattle.parts.specs.declared.types.Cause.{Cause}
 use Rattle.parts.specs.declared.types.Cause.TheVariants.{Capacity, Other, Changed}
 use Rattle.parts.specs.declared.calls.Call.{Call}
 use Rattle.parts.specs.declared.calls.Call.TheVariants.{Open, Read, Write, Close, Push, Jolt, Again, Drop}
+use Rattle.rules.specs.declared.limits.TheConstants.{SLOTS}
 use Rattle.rules.specs.declared.types.Caller.{Caller}
 use Rattle.rules.specs.declared.types.Closing.{Closing}
 use Rattle.rules.specs.declared.types.Granted.{Granted}
@@ -299,7 +300,7 @@ numbers-stay {W} kit b who call =
 
 -- the slots of the head j are as before
 abbrev SameSlots : {W : Type 0} → ℕ → Bench W → Bench W → Type 0
-SameSlots j b o = (log_of j 32 o.reads ≡ log_of j 32 b.reads) × (log_of j 32 o.writes ≡ log_of j 32 b.writes)
+SameSlots j b o = (log_of j SLOTS o.reads ≡ log_of j SLOTS b.reads) × (log_of j SLOTS o.writes ≡ log_of j SLOTS b.writes)
 
 module _ {W : Type 0} (kit : Kit W) (b : Bench W) (bounds : InBounds b.table) (who : Caller) (j : ℕ) (ne : j ≡ who.head → ⊥) where
   abbrev k : ℕ
@@ -315,12 +316,12 @@ module _ {W : Type 0} (kit : Kit W) (b : Bench W) (bounds : InBounds b.table) (w
       let log = note c w (read_log b k) in
       let free : lacks_room_for c (read_log b k) ≡ false = sym (ap (λ t. not t && lacks_room_for c (read_log b k)) (word_none c (write_log b k) e)) ∙ a.slot in
       let few = few-noted c w (read_log b k) (omega (arith, length-log k (head_at b k).read_count b.reads, (own-bounds a.head).reads)) free in
-      (log-laid-other k log b.reads few (omega (arith, a.head, a.lists.reads)) j 32 ne (omega arith), refl))
+      (log-laid-other k log b.reads few (omega (arith, a.head, a.lists.reads)) j SLOTS ne (omega arith), refl))
       (λ ys p cause. (refl, refl))
   slots-kept (Write c w) a =
       let log = put c w (write_log b k) in
       let few = few-put c w (write_log b k) (omega (arith, length-log k (head_at b k).write_count b.writes, (own-bounds a.head).writes)) a.slot in
-      let stays = log-laid-other k log b.writes few (omega (arith, a.head, a.lists.writes)) j 32 ne (omega arith) in
+      let stays = log-laid-other k log b.writes few (omega (arith, a.head, a.lists.writes)) j SLOTS ne (omega arith) in
       by-write kit b k c w (λ (o : Outcome (Unit {0}) W). SameSlots j b o.left) (λ ys p. (refl, stays)) (refl, stays)
   slots-kept Close a =
       by-close kit b k (λ (o : Outcome Closing W). SameSlots j b o.left) (λ _. (refl, refl)) (refl, refl) (λ _ _. (refl, refl)) (λ ys p. (refl, refl))
