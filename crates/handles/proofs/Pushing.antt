@@ -81,7 +81,7 @@ module _ {W : Type 0} (kit : Kit W) (who : Caller) (b : Bench W) (s : InBounds b
   here : head_at next k ≡ pushed (eqb n 0)
   here =
       ap (λ (o : Outcome ℕ W). head_at o.left k) is
-      ∙ get_or-set_same b.table.heads k (pushed (is_last b k)) new_head (omega (arith, known.head, s.few_heads, s.eight))
+      ∙ get_or-set_same b.table.heads k (pushed (is_last b k)) new_head (omega (arith, known.head, s.few_heads, s.records))
       ∙ ap pushed last
 
   log : write_log next k ≡ write_log b k
@@ -263,7 +263,7 @@ module _ {W : Type 0} {h held : WritingBack} {start now after : Bench W} {p : �
     where
       few : (a : Result ℕ Refusal) → (push_of start by).answer ≡ a → (m : ℕ) → raised 1 a ≡ Ok (p + suc m) → p ≤ 32
       few (Ok l) same m e =
-          let own = s.heads by.head new_head (omega (arith, (known kit by start s l same).head, s.few_heads, s.eight)) in
+          let own = s.heads by.head new_head (omega (arith, (known kit by start s l same).head, s.few_heads, s.records)) in
           let sum : 1 + l ≡ p + suc m = cc in
           omega (arith, sum, rest kit by start s l same, length-log by.head (head_at start by.head).write_count start.writes, own.writes)
       few (Err x) same m e = cc

@@ -11,7 +11,7 @@ mod words;
 
 pub use boards::{Board, LinesBoard, Margin, StoresBoard};
 pub use calls::Call;
-pub use policies::{Careful, Plain, Policy};
+pub use policies::{CAREFUL_PATIENCE, Careful, PLAIN_PATIENCE, Plain, Policy};
 pub use sizes::{MOST_CELLS, MOST_HEADS, Size};
 pub use types::{Cause, Mode, Prices, Rate};
 pub use words::Word;

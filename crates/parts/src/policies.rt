@@ -4,10 +4,17 @@ ghost use Rattle.parts.specs.declared.types.Cause.{Cause};
 ghost use Rattle.parts.specs.declared.types.Cause.TheVariants as causes;
 ghost use Rattle.parts.specs.declared.types.Mode.{Mode};
 ghost use Rattle.parts.specs.declared.types.Mode.TheVariants as modes;
+ghost use Rattle.parts.specs.declared.policies.TheConstants.{PLAIN_PATIENCE, CAREFUL_PATIENCE};
 ghost use Rattle.parts.specs.Policies.{software_from, plain_mode, careful_mode};
 ghost use Rattle.std.proofs.Common.{rules};
 
 use crate::types::{Cause, Mode};
+
+/// The patience of [`Plain`]: the most hardware attempts of a transaction.
+pub const PLAIN_PATIENCE: u32 = 3;
+
+/// The patience of [`Careful`].
+pub const CAREFUL_PATIENCE: u32 = 16;
 
 /// A policy answers from the cause of the latest abort and the number of the transaction's hardware aborts.
 pub trait Policy {
@@ -45,7 +52,7 @@ pub struct Plain;
 impl Policy for Plain {
     ghost next = { λ _ c aborts. plain_mode c aborts };
 
-    ghost patience = { λ _. 3 };
+    ghost patience = { λ _. PLAIN_PATIENCE };
 
     ghost software_from_patience = { Prim.search rules };
 
@@ -54,7 +61,7 @@ impl Policy for Plain {
     ghost at_most_64 = { Prim.search rules };
 
     fn next(&self, _cause: Cause, aborts: u32) -> Mode {
-        software_from(3, aborts)
+        software_from(PLAIN_PATIENCE, aborts)
     }
 }
 
@@ -65,7 +72,7 @@ pub struct Careful;
 impl Policy for Careful {
     ghost next = { λ _ c aborts. careful_mode c aborts };
 
-    ghost patience = { λ _. 16 };
+    ghost patience = { λ _. CAREFUL_PATIENCE };
 
     ghost software_from_patience = { Prim.search rules };
 
@@ -75,7 +82,7 @@ impl Policy for Careful {
 
     fn next(&self, cause: Cause, aborts: u32) -> Mode {
         let n = match cause {
-            Cause::Conflict => 16,
+            Cause::Conflict => CAREFUL_PATIENCE,
             Cause::Lock | Cause::Other => 5,
             Cause::Capacity | Cause::Changed => 0,
         };

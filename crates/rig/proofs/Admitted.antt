@@ -19,7 +19,7 @@ module _ {W : Type 0} (b : Bench W) (who : Caller) (call : Call ℕ W) where
       → is_stale who.transaction me ≡ false → is_beyond b.table.cell_count call ≡ false → takes call me.state ≡ true → Admits b who call me
   admits bounds match lt cells reads writes fresh near take =
       let few = bounds.few_heads in
-      let eight = bounds.eight in
+      let eight = bounds.records in
       let there : leb b.table.head_count who.head ≡ false = lt-leb b.table.head_count who.head lt in
       record {
         own = refl;

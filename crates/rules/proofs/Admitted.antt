@@ -3,6 +3,7 @@ use Rattle.std.proofs.Common.{◌≡◌, ℕ, ◌*◌, ◌<◌, Bool, true, fals
 use Rattle.std.specs.List.{AllByRecursion}
 use Rattle.std.proofs.lemmas.Bool.{not-false, eqb-true, leb-false, and_parts}
 use Rattle.parts.specs.declared.calls.Call.{Call}
+use Rattle.rules.specs.declared.limits.TheConstants.{SLOTS}
 use Rattle.rules.specs.declared.types.Caller.{Caller}
 use Rattle.rules.specs.declared.types.Refusal.{Refusal}
 use Rattle.rules.specs.Bench.{Bench, head_at, is_odd}
@@ -20,13 +21,13 @@ first-none (Some x ∷ rows) e = cc
 -- the lists have their lengths
 pub record Sized {W : Type 0} (b : Bench W) : Type 0 where
   pub cells : length b.cells ≡ b.table.cell_count
-  pub reads : length b.reads ≡ 32 * b.table.head_count
-  pub writes : length b.writes ≡ 32 * b.table.head_count
+  pub reads : length b.reads ≡ SLOTS * b.table.head_count
+  pub writes : length b.writes ≡ SLOTS * b.table.head_count
 
 pub sized : {W : Type 0} (b : Bench W) → lengths_match b ≡ true → Sized b
 sized b e =
-    let p = and_parts (eqb (length b.cells) b.table.cell_count) (eqb (length b.reads) (32 * b.table.head_count) && eqb (length b.writes) (32 * b.table.head_count)) e in
-    let q = and_parts (eqb (length b.reads) (32 * b.table.head_count)) (eqb (length b.writes) (32 * b.table.head_count)) p.1 in
+    let p = and_parts (eqb (length b.cells) b.table.cell_count) (eqb (length b.reads) (SLOTS * b.table.head_count) && eqb (length b.writes) (SLOTS * b.table.head_count)) e in
+    let q = and_parts (eqb (length b.reads) (SLOTS * b.table.head_count)) (eqb (length b.writes) (SLOTS * b.table.head_count)) p.1 in
     record { cells = eqb-true _ _ p.0; reads = eqb-true _ _ q.0; writes = eqb-true _ _ q.1 }
 
 pub record Admitted {W : Type 0} (b : Bench W) (who : Caller) (call : Call ℕ W) : Type 0 where

@@ -85,7 +85,7 @@ module _ {W : Type 0} (kit : Kit W) (b : Bench W) (bounds : InBounds b.table) (w
 
   module _ (call : Call ℕ W) (a : Admitted b who call) where
     there : k < length b.table.heads
-    there = omega (arith, a.head, bounds.few_heads, bounds.eight)
+    there = omega (arith, a.head, bounds.few_heads, bounds.records)
 
     placed : (ys : List Head) → Swept b.table.heads ys → (x : Head) → get_or (set ys k x) k new_head ≡ x
     placed ys p x = let same = length_all_zip Hit b.table.heads ys p in get_or-set_same ys k x new_head (omega (arith, there))

@@ -3,6 +3,7 @@ use Rattle.std.proofs.Common.{◌≡◌, ℕ, ◌+◌, ◌<◌, ◌≤◌, false
 use Rattle.parts.specs.declared.types.Cause.{Cause}
 use Rattle.parts.specs.declared.types.Mode.{Mode}
 use Rattle.parts.specs.declared.types.Mode.TheVariants as mode
+use Rattle.rules.specs.declared.limits.TheConstants.{SLOTS, MOST_ATTEMPTS}
 use Rattle.rules.specs.declared.types.Head.{Head}
 use Rattle.rules.specs.declared.types.Snapshot.{Snapshot}
 use Rattle.rules.specs.declared.types.State.TheVariants.{Idle, WritingBack}
@@ -48,8 +49,8 @@ module _ (h : Head) (p : HeadBounds h) where
   }
 
   -- a head that is not writing back has no slot left to push
-  module _ (x : Head) (reads : x.read_count ≤ 32) (writes : x.write_count ≤ 32) (aborts : x.hardware_aborts + cond (is_hardware x.state) 1 0 ≤ x.attempts)
-      (attempts : x.attempts ≤ 70_000) (stores : x.stores ≤ 65_535) (written : x.written ≤ 32) where
+  module _ (x : Head) (reads : x.read_count ≤ SLOTS) (writes : x.write_count ≤ SLOTS) (aborts : x.hardware_aborts + cond (is_hardware x.state) 1 0 ≤ x.attempts)
+      (attempts : x.attempts ≤ MOST_ATTEMPTS) (stores : x.stores ≤ 65_535) (written : x.written ≤ SLOTS) where
     plain-bounds : is_writing_back x.state ≡ false → HeadBounds x
     plain-bounds f = record {
       reads = reads;
@@ -61,11 +62,11 @@ module _ (h : Head) (p : HeadBounds h) where
       unfinished = rw f (omega arith);
     }
 
-  pub begin-bounds : (m : Mode) (s : Snapshot) → h.attempts < 70_000 → HeadBounds (begin m s h)
+  pub begin-bounds : (m : Mode) (s : Snapshot) → h.attempts < MOST_ATTEMPTS → HeadBounds (begin m s h)
   begin-bounds mode.Hardware s lt = plain-bounds _ (omega arith) (omega arith) (omega (arith, p.hardware_aborts)) (omega arith) (omega arith) p.written refl
   begin-bounds mode.Software s lt = plain-bounds _ (omega arith) (omega arith) (omega (arith, p.hardware_aborts)) (omega arith) (omega arith) p.written refl
 
-  pub idle-bounds : (n : ℕ) → n ≤ 32 → HeadBounds (become Idle (wrote n h))
+  pub idle-bounds : (n : ℕ) → n ≤ SLOTS → HeadBounds (become Idle (wrote n h))
   idle-bounds n le = plain-bounds _ p.reads p.writes (omega (arith, p.hardware_aborts)) p.attempts p.stores le refl
 
   pub back-bounds : (n : ℕ) → n < h.write_count → HeadBounds (become WritingBack (wrote n h))
@@ -93,7 +94,7 @@ module _ (h : Head) (p : HeadBounds h) where
     unfinished = p.unfinished;
   }
 
-  pub read-bounds : (n : ℕ) → n ≤ 32 → HeadBounds (read_more n h)
+  pub read-bounds : (n : ℕ) → n ≤ SLOTS → HeadBounds (read_more n h)
   read-bounds n le = record {
     reads = le;
     writes = p.writes;
@@ -108,5 +109,5 @@ module _ (h : Head) (p : HeadBounds h) where
   few-stores = by-test (is_hardware h.state) (λ b. cond b (min (h.stores + 1) 65_535) h.stores ≤ 65_535) (λ _. omega arith) (λ _. p.stores)
 
   -- a head that writes is not writing back
-  pub write-bounds : (n : ℕ) → n ≤ 32 → is_writing_back h.state ≡ false → HeadBounds (wrote_more n h)
+  pub write-bounds : (n : ℕ) → n ≤ SLOTS → is_writing_back h.state ≡ false → HeadBounds (wrote_more n h)
   write-bounds n le f = plain-bounds _ p.reads le p.hardware_aborts p.attempts few-stores p.written f

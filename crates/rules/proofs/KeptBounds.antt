@@ -9,6 +9,8 @@ use Rattle.parts.specs.declared.types.Mode.{Mode}
 use Rattle.parts.specs.declared.types.Mode.TheVariants as mode
 use Rattle.parts.specs.declared.calls.Call.{Call}
 use Rattle.parts.specs.declared.calls.Call.TheVariants.{Open, Read, Write, Close, Push, Jolt, Again, Drop}
+use Rattle.parts.specs.declared.sizes.TheConstants.{MOST_HEADS, MOST_CELLS}
+use Rattle.rules.specs.declared.limits.TheConstants.{RECORDS, SLOTS, MOST_TRANSACTIONS, MOST_ATTEMPTS}
 use Rattle.rules.specs.declared.types.Caller.{Caller}
 use Rattle.rules.specs.declared.types.Closing.{Closing}
 use Rattle.rules.specs.declared.types.Head.{Head}
@@ -46,15 +48,15 @@ bounds-at-set-up heads cells t =
   where
     new : in_range heads cells ≡ true → InBounds (new_table heads cells)
     new r =
-        let p = and_parts (leb 1 heads && leb heads 8) (leb 1 cells && leb cells 1024) r in
+        let p = and_parts (leb 1 heads && leb heads MOST_HEADS) (leb 1 cells && leb cells MOST_CELLS) r in
         record {
-          heads = All-replicate HeadBounds 8 new_head new-bounds;
-          eight = refl;
-          few_heads = leb-true heads 8 (and_parts (leb 1 heads) (leb heads 8) p.0).1;
-          few_cells = leb-true cells 1024 (and_parts (leb 1 cells) (leb cells 1024) p.1).1;
-          some_cells = leb-true 1 cells (and_parts (leb 1 cells) (leb cells 1024) p.1).0;
+          heads = All-replicate HeadBounds RECORDS new_head new-bounds;
+          records = refl;
+          few_heads = leb-true heads MOST_HEADS (and_parts (leb 1 heads) (leb heads MOST_HEADS) p.0).1;
+          few_cells = leb-true cells MOST_CELLS (and_parts (leb 1 cells) (leb cells MOST_CELLS) p.1).1;
+          some_cells = leb-true 1 cells (and_parts (leb 1 cells) (leb cells MOST_CELLS) p.1).0;
           opened = omega arith;
-          numbered = All-replicate (λ (h : Head). h.transaction ≤ 0) 8 new_head (omega arith);
+          numbered = All-replicate (λ (h : Head). h.transaction ≤ 0) RECORDS new_head (omega arith);
           used = omega arith;
         }
 
@@ -78,12 +80,12 @@ module _ {W : Type 0} (kit : Kit W) (b : Bench W) (s : InBounds b.table) (k : �
   heads = b.table.heads
 
   own : HeadBounds h
-  own = let e = s.eight in All-get_or HeadBounds heads k new_head (omega arith) s.heads
+  own = let e = s.records in All-get_or HeadBounds heads k new_head (omega arith) s.heads
 
   sizes : (t : Table) → t.head_count ≡ b.table.head_count → t.cell_count ≡ b.table.cell_count → SameSizes b (record b { table = t })
   sizes t heads cells = record { head_count = heads; cell_count = cells; cells = refl; reads = refl; writes = refl }
 
-  open_kept : is_idle h.state ≡ true → b.table.opened < 60_000 → Kept b (admitted_open b k).left
+  open_kept : is_idle h.state ≡ true → b.table.opened < MOST_TRANSACTIONS → Kept b (admitted_open b k).left
   open_kept idle few =
       let n = b.table.opened + 1 in
       let old : busy h ≡ 0 = ap (λ t. cond t 0 1) idle in (
@@ -104,22 +106,22 @@ module _ {W : Type 0} (kit : Kit W) (b : Bench W) (s : InBounds b.table) (k : �
     aborted : (ys : List Head) → Swept heads ys → (cause : Cause) → InBounds (table_with b k ys (abort cause h))
     aborted ys p cause = keeps ys p (abort cause h) (abort-bounds h own cause) refl refl
 
-    read_kept : (c : ℕ) → 32 * k + 32 ≤ length b.reads → (not (names c (write_log b k)) && lacks_room_for c (read_log b k)) ≡ false → Kept b (admitted_read kit.memory b k c).left
+    read_kept : (c : ℕ) → SLOTS * k + SLOTS ≤ length b.reads → (not (names c (write_log b k)) && lacks_room_for c (read_log b k)) ≡ false → Kept b (admitted_read kit.memory b k c).left
     read_kept c room slot =
         by_read kit b k c (λ (o : Outcome W W). Kept b o.left) (λ _. (s, sizes _ refl refl)) (s, sizes _ refl refl)
         (λ e ys p snap w.
         let log = note c w (read_log b k) in
         let free : lacks_room_for c (read_log b k) ≡ false = sym (ap (λ t. not t && lacks_room_for c (read_log b k)) (word_none c (write_log b k) e)) ∙ slot in
-        let few : length log ≤ 32 = few-noted c w (read_log b k) (omega (arith, length-log k h.read_count b.reads, own.reads)) free in (
+        let few : length log ≤ SLOTS = few-noted c w (read_log b k) (omega (arith, length-log k h.read_count b.reads, own.reads)) free in (
           keeps ys p (read_more (length log) (resnap snap h)) (read-bounds (resnap snap h) (resnap-bounds h own snap) (length log) few) going refl,
           record { head_count = refl; cell_count = refl; cells = refl; reads = length-laid k log b.reads few room; writes = refl },
         ))
         (λ ys p cause. (aborted ys p cause, sizes _ refl refl))
 
-    write_kept : (c : ℕ) (w : W) → is_writing_back h.state ≡ false → 32 * k + 32 ≤ length b.writes → lacks_room_for c (write_log b k) ≡ false → Kept b (admitted_write kit.memory b k c w).left
+    write_kept : (c : ℕ) (w : W) → is_writing_back h.state ≡ false → SLOTS * k + SLOTS ≤ length b.writes → lacks_room_for c (write_log b k) ≡ false → Kept b (admitted_write kit.memory b k c w).left
     write_kept c w not_back room free =
         let log = put c w (write_log b k) in
-        let few : length log ≤ 32 = few-put c w (write_log b k) (omega (arith, length-log k h.write_count b.writes, own.writes)) free in
+        let few : length log ≤ SLOTS = few-put c w (write_log b k) (omega (arith, length-log k h.write_count b.writes, own.writes)) free in
         let x = wrote_more (length log) h in
         let px = write-bounds h own (length log) few not_back in
         let len = length-laid k log b.writes few room in
@@ -136,7 +138,7 @@ module _ {W : Type 0} (kit : Kit W) (b : Bench W) (s : InBounds b.table) (k : �
         let old : busy h ≡ 1 = ap (λ t. cond t 0 1) going in
         bounds-with b.table s k lt (map lock_out (after_loads kit.memory b k (cells_validated kit.memory b k))) (swept-lock kit b k (cells_validated kit.memory b k)) (become WritingBack (wrote 0 x))
         (back-bounds x (resnap-bounds h own (present_snapshot b.table)) 0 (omega (arith, some-length (write_log b k) some, length-log k h.write_count b.writes)))
-        (b.table.sequence + 1) b.table.commits b.table.opened s.opened (omega arith) (let le = s.numbered k new_head (omega (arith, s.eight)) in omega arith) (omega (arith, eqb-false (b.table.sequence % 2) 1 even))
+        (b.table.sequence + 1) b.table.commits b.table.opened s.opened (omega arith) (let le = s.numbered k new_head (omega (arith, s.records)) in omega arith) (omega (arith, eqb-false (b.table.sequence % 2) 1 even))
 
     close-kept : (is_hardware h.state ≡ false → is_software h.state ≡ true)
         → ((is_software h.state && not (is_empty (write_log b k))) && is_odd b.table.sequence) ≡ false → Kept b (admitted_close kit.memory b k).left
@@ -152,7 +154,7 @@ module _ {W : Type 0} (kit : Kit W) (b : Bench W) (s : InBounds b.table) (k : �
     push_kept : is_writing_back h.state ≡ true → Kept b (admitted_push b k).left
     push_kept writing =
         let left : h.written + 1 ≤ h.write_count = subst (λ t. cond t (h.written + 1) 0 ≤ h.write_count) writing own.unfinished in
-        let few : h.written + 1 ≤ 32 = omega (arith, own.writes) in
+        let few : h.written + 1 ≤ SLOTS = omega (arith, own.writes) in
         let x = wrote (h.written + 1) h in (
           by-test (is_last b k)
               (λ t. InBounds (record b.table {
@@ -168,7 +170,7 @@ module _ {W : Type 0} (kit : Kit W) (b : Bench W) (s : InBounds b.table) (k : �
     jolt-kept : Kept b (admitted_jolt b k).left
     jolt-kept = (aborted heads (swept_none heads) Other, sizes _ refl refl)
 
-    again_kept : h.attempts < 70_000 → Kept b (admitted_again kit.policy b k).left
+    again_kept : h.attempts < MOST_ATTEMPTS → Kept b (admitted_again kit.policy b k).left
     again_kept few =
         let m = again_mode kit.policy b k in
         (keeps heads (swept_none heads) (begin m (present_snapshot b.table) h) (begin-bounds h own m (present_snapshot b.table) few) (begun-busy m) refl, sizes _ refl refl)
@@ -184,7 +186,7 @@ module _ {W : Type 0} (kit : Kit W) (b : Bench W) (s : InBounds b.table) (who : 
   state = (head_at b k).state
 
   granted-kept : (call : Call ℕ W) → Admitted b who call → k < 8 → Kept b (admitted_of kit b k call).1
-  granted-kept Open a lt = open_kept kit b s k lt a.taken (leb-false 60_000 b.table.opened a.transaction)
+  granted-kept Open a lt = open_kept kit b s k lt a.taken (leb-false MOST_TRANSACTIONS b.table.opened a.transaction)
   granted-kept (Read c) a lt = read_kept kit b s k lt (taken-busy {W = W} (Read c) state refl a.taken) c (omega (arith, a.head, a.lists.reads)) a.slot
   granted-kept (Write c w) a lt =
       write_kept kit b s k lt (taken-busy {W = W} (Write c w) state refl a.taken) c w (going-plain state (running-going state a.taken)) (omega (arith, a.head, a.lists.writes)) a.slot
@@ -193,7 +195,7 @@ module _ {W : Type 0} (kit : Kit W) (b : Bench W) (s : InBounds b.table) (who : 
       (λ f. sym (ap (λ t. t || is_software state) f) ∙ a.taken) a.free
   granted-kept Push a lt = push_kept kit b s k lt (taken-busy {W = W} Push state refl a.taken) a.taken
   granted-kept Jolt a lt = jolt-kept kit b s k lt (taken-busy {W = W} Jolt state refl a.taken)
-  granted-kept Again a lt = again_kept kit b s k lt (taken-busy {W = W} Again state refl a.taken) (leb-false 70_000 (head_at b k).attempts a.attempt)
+  granted-kept Again a lt = again_kept kit b s k lt (taken-busy {W = W} Again state refl a.taken) (leb-false MOST_ATTEMPTS (head_at b k).attempts a.attempt)
   granted-kept Drop a lt = drop-kept kit b s k lt (taken-busy {W = W} Drop state refl a.taken)
 
 pub bounds-kept : {W : Type 0} (kit : Kit W) → BoundsKept kit

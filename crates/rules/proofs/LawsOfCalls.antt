@@ -6,6 +6,7 @@ use Rattle.parts.specs.declared.types.Cause.{Cause}
 use Rattle.parts.specs.declared.types.Cause.TheVariants.{Capacity, Other, Changed}
 use Rattle.parts.specs.declared.calls.Call.{Call}
 use Rattle.parts.specs.declared.calls.Call.TheVariants.{Open, Read, Write, Close, Push, Jolt, Again, Drop}
+use Rattle.rules.specs.declared.limits.TheConstants.{SLOTS}
 use Rattle.rules.specs.declared.types.Caller.{Caller}
 use Rattle.rules.specs.declared.types.Closing.{Closing}
 use Rattle.rules.specs.declared.types.Granted.{Granted}
@@ -166,7 +167,7 @@ pub aborts-tell-their-cause : {W : Type 0} (kit : Kit W) → AbortsTellTheirCaus
 aborts-tell-their-cause {W} kit b who call cause bounds is =
     by_call kit b who call (Told who.head cause)
     (λ e r q. refusal-told b who call cause (r ∙ ap Some cc))
-    (λ none. granted-told kit b who.head cause (let a = admitted b who call none in omega (arith, a.head, bounds.few_heads, bounds.eight)) call) is
+    (λ none. granted-told kit b who.head cause (let a = admitted b who call none in omega (arith, a.head, bounds.few_heads, bounds.records)) call) is
 
 -- the first row that refuses is the refusal
 when-first : (t : Bool) (e : Refusal) (rows : List (Option Refusal)) → t ≡ true → first_found (when t e ∷ rows) ≡ Some e
@@ -266,7 +267,7 @@ open-takes-next-number {W} kit b who g bounds e =
     (λ (r : Answer W × Bench W). r.0 ≡ Ok g → ((head_at r.1 who.head).transaction ≡ b.table.opened + 1) × (r.1.table.opened ≡ b.table.opened + 1))
     (λ e _ q. cc)
     (λ q _. let a = admitted b who Open q in
-    (ap (λ (h : Head). h.transaction) (get_or-set_same b.table.heads who.head _ new_head (omega (arith, a.head, bounds.few_heads, bounds.eight))), refl)) e
+    (ap (λ (h : Head). h.transaction) (get_or-set_same b.table.heads who.head _ new_head (omega (arith, a.head, bounds.few_heads, bounds.records))), refl)) e
 
 -- the numbers of all heads, and how many were given, are as before
 abbrev SameNumbers : {W : Type 0} → Bench W → Bench W → Type 0
@@ -299,14 +300,14 @@ numbers-stay {W} kit b who call =
 
 -- the slots of the head j are as before
 abbrev SameSlots : {W : Type 0} → ℕ → Bench W → Bench W → Type 0
-SameSlots j b o = (log_of j 32 o.reads ≡ log_of j 32 b.reads) × (log_of j 32 o.writes ≡ log_of j 32 b.writes)
+SameSlots j b o = (log_of j SLOTS o.reads ≡ log_of j SLOTS b.reads) × (log_of j SLOTS o.writes ≡ log_of j SLOTS b.writes)
 
 module _ {W : Type 0} (kit : Kit W) (b : Bench W) (bounds : InBounds b.table) (who : Caller) (j : ℕ) (ne : j ≡ who.head → ⊥) where
   abbrev k : ℕ
   k = who.head
 
   own-bounds : k < b.table.head_count → HeadBounds (head_at b k)
-  own-bounds lt = bounds.heads k new_head (omega (arith, lt, bounds.few_heads, bounds.eight))
+  own-bounds lt = bounds.heads k new_head (omega (arith, lt, bounds.few_heads, bounds.records))
 
   slots-kept : (call : Call ℕ W) → Admitted b who call → SameSlots j b (admitted_of kit b k call).1
   slots-kept (Read c) a =
@@ -315,12 +316,12 @@ module _ {W : Type 0} (kit : Kit W) (b : Bench W) (bounds : InBounds b.table) (w
       let log = note c w (read_log b k) in
       let free : lacks_room_for c (read_log b k) ≡ false = sym (ap (λ t. not t && lacks_room_for c (read_log b k)) (word_none c (write_log b k) e)) ∙ a.slot in
       let few = few-noted c w (read_log b k) (omega (arith, length-log k (head_at b k).read_count b.reads, (own-bounds a.head).reads)) free in
-      (log-laid-other k log b.reads few (omega (arith, a.head, a.lists.reads)) j 32 ne (omega arith), refl))
+      (log-laid-other k log b.reads few (omega (arith, a.head, a.lists.reads)) j SLOTS ne (omega arith), refl))
       (λ ys p cause. (refl, refl))
   slots-kept (Write c w) a =
       let log = put c w (write_log b k) in
       let few = few-put c w (write_log b k) (omega (arith, length-log k (head_at b k).write_count b.writes, (own-bounds a.head).writes)) a.slot in
-      let stays = log-laid-other k log b.writes few (omega (arith, a.head, a.lists.writes)) j 32 ne (omega arith) in
+      let stays = log-laid-other k log b.writes few (omega (arith, a.head, a.lists.writes)) j SLOTS ne (omega arith) in
       by-write kit b k c w (λ (o : Outcome (Unit {0}) W). SameSlots j b o.left) (λ ys p. (refl, stays)) (refl, stays)
   slots-kept Close a =
       by-close kit b k (λ (o : Outcome Closing W). SameSlots j b o.left) (λ _. (refl, refl)) (refl, refl) (λ _ _. (refl, refl)) (λ ys p. (refl, refl))

@@ -5,6 +5,7 @@ use Rattle.std.specs.List.{slice_get, list_all}
 use Rattle.std.proofs.lemmas.Bool.{eqb-true, eqb-false, or_parts, or_cases, and_parts, and_from, leb-false, ne_eqb}
 use Rattle.std.proofs.lemmas.List.{set-set, set_comm, length-append, reverse-append, length-take}
 use Rattle.std.proofs.lemmas.List.Elements.{All-append, All-nil, All-cons, All-head, All-tail}
+use Rattle.rules.specs.declared.limits.TheConstants.{SLOTS}
 use Rattle.rules.specs.declared.types.Slot.{Slot}
 use Rattle.rules.specs.Logs.{slot, is_empty, names, word_for, put, note, lacks_room_for, put_in, log_of, holds, holds_same}
 use Rattle.rules.specs.Kit.{Kit}
@@ -20,7 +21,7 @@ Distinct [] = Unit {0}
 Distinct (s ∷ log) = (names s.cell log ≡ false) × Distinct log
 
 pub length-log : {W : Type 0} (k n : ℕ) (slots : List (Slot W)) → length (log_of k n slots) ≤ n
-length-log k n slots = let e = length-take n (drop (32 * k) slots) in omega arith
+length-log k n slots = let e = length-take n (drop (SLOTS * k) slots) in omega arith
 
 module _ {W : Type 0} where
   pub put-in-append : (a b : List (Slot W)) (xs : List W) → put_in (a ++ b) xs ≡ put_in b (put_in a xs)
@@ -142,10 +143,10 @@ module _ {W : Type 0} where
       (all-append-right (AgreesAt xs) log (slot c w ∷ []) h))
 
   -- a word that has a slot or finds one free leaves at most 32
-  pub few-noted : (c : ℕ) (w : W) (log : List (Slot W)) → length log ≤ 32 → lacks_room_for c log ≡ false → length (note c w log) ≤ 32
+  pub few-noted : (c : ℕ) (w : W) (log : List (Slot W)) → length log ≤ SLOTS → lacks_room_for c log ≡ false → length (note c w log) ≤ SLOTS
   few-noted c w log le room =
-      by-test (names c log) (λ b. (not b && leb 32 (length log)) ≡ false → length (cond b log (log ++ (slot c w ∷ []))) ≤ 32) (λ _ _. le)
-      (λ _ e. let lt = leb-false 32 (length log) e in let n = length-append log (slot c w ∷ []) in omega arith) room
+      by-test (names c log) (λ b. (not b && leb SLOTS (length log)) ≡ false → length (cond b log (log ++ (slot c w ∷ []))) ≤ SLOTS) (λ _ _. le)
+      (λ _ e. let lt = leb-false SLOTS (length log) e in let n = length-append log (slot c w ∷ []) in omega arith) room
 
   length-put : (c : ℕ) (w : W) (log : List (Slot W)) → length (put c w log) ≡ cond (names c log) (length log) (length log + 1)
   length-put c w [] = refl
@@ -153,11 +154,11 @@ module _ {W : Type 0} where
       by-test (eqb c s.cell) (λ b. length (cond b (slot c w ∷ log) (s ∷ put c w log)) ≡ cond (b || names c log) (suc (length log)) (suc (length log) + 1)) (λ _. refl)
       (λ _. ap suc (length-put c w log) ∙ by-test (names c log) (λ b. suc (cond b (length log) (length log + 1)) ≡ cond b (suc (length log)) (suc (length log) + 1)) (λ _. refl) (λ _. omega arith))
 
-  pub few-put : (c : ℕ) (w : W) (log : List (Slot W)) → length log ≤ 32 → lacks_room_for c log ≡ false → length (put c w log) ≤ 32
+  pub few-put : (c : ℕ) (w : W) (log : List (Slot W)) → length log ≤ SLOTS → lacks_room_for c log ≡ false → length (put c w log) ≤ SLOTS
   few-put c w log le room =
-      subst (λ n. n ≤ 32) (sym (length-put c w log))
-      (by-test (names c log) (λ b. (not b && leb 32 (length log)) ≡ false → cond b (length log) (length log + 1) ≤ 32) (λ _ _. le)
-      (λ _ e. let lt = leb-false 32 (length log) e in omega arith) room)
+      subst (λ n. n ≤ SLOTS) (sym (length-put c w log))
+      (by-test (names c log) (λ b. (not b && leb SLOTS (length log)) ≡ false → cond b (length log) (length log + 1) ≤ SLOTS) (λ _ _. le)
+      (λ _ e. let lt = leb-false SLOTS (length log) e in omega arith) room)
 
 module _ {W : Type 0} (kit : Kit W) where
   pub meets-noted : (x c : ℕ) (w : W) (log : List (Slot W)) → meets kit x log ≡ false → eqb (kit.memory.line x) (kit.memory.line c) ≡ false → meets kit x (note c w log) ≡ false

@@ -4,6 +4,7 @@ use Rattle.std.specs.List.{slice_get}
 use Rattle.std.proofs.lemmas.Bool.{cond_both, or_parts}
 use Rattle.parts.specs.declared.types.Cause.TheVariants.{Capacity, Changed}
 use Rattle.parts.specs.declared.calls.Call.TheVariants.{Read}
+use Rattle.rules.specs.declared.limits.TheConstants.{SLOTS}
 use Rattle.rules.specs.declared.types.Granted.TheVariants as granted
 use Rattle.rules.specs.declared.types.Head.{Head}
 use Rattle.rules.specs.declared.types.Slot.{Slot}
@@ -108,7 +109,7 @@ module _ {W : Type 0} (kit : Kit W) (law : Lawful kit) (start : List W) (b : Ben
     abbrev new : List (Slot W)
     new = note c w me.reads
 
-    few : length new ≤ 32
+    few : length new ≤ SLOTS
     few = few-noted c w me.reads (let q = read_length b bounds lists h lt in let r = (head-bounds b bounds lists h lt).reads in omega arith) room
 
     -- the head with the word note

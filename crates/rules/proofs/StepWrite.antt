@@ -4,6 +4,7 @@ use Rattle.std.specs.List.{slice_get}
 use Rattle.std.proofs.lemmas.Bool.{cond_both, cond-true}
 use Rattle.parts.specs.declared.types.Cause.TheVariants.{Conflict, Capacity}
 use Rattle.parts.specs.declared.calls.Call.TheVariants.{Write}
+use Rattle.rules.specs.declared.limits.TheConstants.{SLOTS}
 use Rattle.rules.specs.declared.types.Granted.TheVariants as granted
 use Rattle.rules.specs.declared.types.Head.{Head}
 use Rattle.rules.specs.declared.types.Slot.{Slot}
@@ -63,7 +64,7 @@ module _ {W : Type 0} (kit : Kit W) (law : Lawful kit) (start : List W) (b : Ben
   abbrev me' : Seat W
   me' = record { head = x; reads = me.reads; writes = new }
 
-  few : length new ≤ 32
+  few : length new ≤ SLOTS
   few = few-put c w me.writes (let q = write-length b bounds lists h lt in let r = (head-bounds b bounds lists h lt).writes in omega arith) room
 
   mine : seat_at b.reads (slots_with h new b.writes) h x ≡ me'

@@ -4,6 +4,7 @@ use Rattle.std.proofs.lemmas.List.Elements.{length_all_zip}
 use Rattle.std.proofs.lemmas.List.Elements.{All-set, All-cons, All-head, All-tail}
 use Rattle.std.proofs.lemmas.List.{length-set}
 use Rattle.parts.specs.declared.types.Cause.{Cause}
+use Rattle.rules.specs.declared.limits.TheConstants.{RECORDS, MOST_TRANSACTIONS}
 use Rattle.rules.specs.declared.types.Head.{Head}
 use Rattle.rules.specs.declared.types.State.{State}
 use Rattle.rules.specs.declared.types.State.TheVariants.{Idle}
@@ -61,17 +62,17 @@ busy-set (x ∷ xs) (suc k) h d lt = let i = busy-set xs k h d (omega arith) in 
 
 -- one head has a new record after a sweep; the numbers of the table may change as far as its transaction allows
 module _ (t : Table) (s : InBounds t) (k : ℕ) (lt : k < 8) where
-  pub bounds-with : (ys : List Head) → Swept t.heads ys → (h : Head) → HeadBounds h → (sequence commits opened : ℕ) → opened ≤ 60_000 → t.opened ≤ opened → h.transaction ≤ opened
+  pub bounds-with : (ys : List Head) → Swept t.heads ys → (h : Head) → HeadBounds h → (sequence commits opened : ℕ) → opened ≤ MOST_TRANSACTIONS → t.opened ≤ opened → h.transaction ≤ opened
       → t.opened + (busy h + (commits + sequence / 2)) ≤ opened + (busy (get_or t.heads k new_head) + (t.commits + t.sequence / 2))
       → InBounds (with_numbers t (set ys k h) sequence commits opened)
   bounds-with ys p h ph sequence commits opened le more number used =
-      let len : length ys ≡ 8 = sym (length_all_zip Hit t.heads ys p) ∙ s.eight in
+      let len : length ys ≡ RECORDS = sym (length_all_zip Hit t.heads ys p) ∙ s.records in
       let a = busy-set ys k h new_head (omega arith) in
       let b = swept-busy t.heads ys p in
       let c : busy (get_or ys k new_head) ≡ busy (get_or t.heads k new_head) = ap (λ b. cond b 0 1) (hit-idle _ _ (swept_at t.heads ys k new_head p)) in
       record {
         heads = All-set HeadBounds ys k h ph (swept-bounds t.heads ys p s.heads);
-        eight = length-set ys k h ∙ len;
+        records = length-set ys k h ∙ len;
         few_heads = s.few_heads;
         few_cells = s.few_cells;
         some_cells = s.some_cells;
@@ -82,7 +83,7 @@ module _ (t : Table) (s : InBounds t) (k : ℕ) (lt : k < 8) where
 
   -- the number of the head's transaction
   number-stays : (h : Head) → h.transaction ≡ (get_or t.heads k new_head).transaction → h.transaction ≤ t.opened
-  number-stays h same = let le = s.numbered k new_head (omega (arith, s.eight)) in omega arith
+  number-stays h same = let le = s.numbered k new_head (omega (arith, s.records)) in omega arith
 
   -- the head keeps its transaction, or stays without
   pub bounds-stay : (ys : List Head) → Swept t.heads ys → (h : Head) → HeadBounds h → is_idle h.state ≡ is_idle (get_or t.heads k new_head).state

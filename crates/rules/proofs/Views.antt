@@ -5,6 +5,7 @@ use Rattle.std.proofs.lemmas.Bool.{ne_eqb}
 use Rattle.std.proofs.lemmas.List.{length-drop, length-take-le, take_all}
 use Rattle.std.proofs.lemmas.List.Elements.{All-get_or}
 use Rattle.parts.specs.declared.types.Cause.TheVariants.{Conflict, Lock}
+use Rattle.rules.specs.declared.limits.TheConstants.{SLOTS}
 use Rattle.rules.specs.declared.types.Head.{Head}
 use Rattle.rules.specs.declared.types.Slot.{Slot}
 use Rattle.rules.specs.Logs.{log_of, slots_with}
@@ -20,28 +21,28 @@ use Rattle.rules.proofs.Seats.{Seat, abort_seat, struck_by, locked, seat_at, vie
 -- a head of the rig, the lists of right length
 module _ {W : Type 0} (b : Bench W) (bounds : InBounds b.table) (lists : Sized b) (k : ℕ) (lt : k < b.table.head_count) where
   pub head-bounds : HeadBounds (head_at b k)
-  head-bounds = All-get_or HeadBounds b.table.heads k new_head (omega (arith, bounds.eight, bounds.few_heads, lt)) bounds.heads
+  head-bounds = All-get_or HeadBounds b.table.heads k new_head (omega (arith, bounds.records, bounds.few_heads, lt)) bounds.heads
 
   pub seat-there : slice_get (view b).heads k ≡ Some (seat_of b k)
-  seat-there = own-seat b k lt (omega (arith, bounds.eight, bounds.few_heads))
+  seat-there = own-seat b k lt (omega (arith, bounds.records, bounds.few_heads))
 
-  pub read-room : 32 * k + 32 ≤ length b.reads
+  pub read-room : SLOTS * k + SLOTS ≤ length b.reads
   read-room = omega (arith, lists.reads, lt)
 
-  pub write-room : 32 * k + 32 ≤ length b.writes
+  pub write-room : SLOTS * k + SLOTS ≤ length b.writes
   write-room = omega (arith, lists.writes, lt)
 
   pub read_length : length (read_log b k) ≡ (head_at b k).read_count
-  read_length = length-take-le _ (drop (32 * k) b.reads) (let q = length-drop (32 * k) b.reads in omega (arith, read-room, head-bounds.reads))
+  read_length = length-take-le _ (drop (SLOTS * k) b.reads) (let q = length-drop (SLOTS * k) b.reads in omega (arith, read-room, head-bounds.reads))
 
   pub write-length : length (write_log b k) ≡ (head_at b k).write_count
-  write-length = length-take-le _ (drop (32 * k) b.writes) (let q = length-drop (32 * k) b.writes in omega (arith, write-room, head-bounds.writes))
+  write-length = length-take-le _ (drop (SLOTS * k) b.writes) (let q = length-drop (SLOTS * k) b.writes in omega (arith, write-room, head-bounds.writes))
 
   -- the head's own log once it is slots_with, and another's
-  pub own-log : (slots log : List (Slot W)) → 32 * k + 32 ≤ length slots → length log ≤ 32 → log_of k (length log) (slots_with k log slots) ≡ log
+  pub own-log : (slots log : List (Slot W)) → SLOTS * k + SLOTS ≤ length slots → length log ≤ SLOTS → log_of k (length log) (slots_with k log slots) ≡ log
   own-log slots log room few = log-laid-own k log slots few room (length log) (omega arith) ∙ take_all (length log) log (omega arith)
 
-  pub other-log : (slots log : List (Slot W)) → 32 * k + 32 ≤ length slots → length log ≤ 32 → (j n : ℕ) → (j ≡ k → ⊥) → n ≤ 32 → log_of j n (slots_with k log slots) ≡ log_of j n slots
+  pub other-log : (slots log : List (Slot W)) → SLOTS * k + SLOTS ≤ length slots → length log ≤ SLOTS → (j n : ℕ) → (j ≡ k → ⊥) → n ≤ SLOTS → log_of j n (slots_with k log slots) ≡ log_of j n slots
   other-log slots log room few j n ne le = log-laid-other k log slots few room j n ne le
 
   abbrev pub Elsewhere : (ℕ → Head → Head) → (Seat W → Seat W) → List (Slot W) → List (Slot W) → Type 0
@@ -67,11 +68,11 @@ module _ {W : Type 0} (b : Bench W) (bounds : InBounds b.table) (lists : Sized b
   untouched j x bound ne = refl
 
   -- new slots of the head k leave the others' logs
-  pub reads-laid : (log : List (Slot W)) → length log ≤ 32 → Elsewhere (λ _ x. x) (λ o. o) (slots_with k log b.reads) b.writes
+  pub reads-laid : (log : List (Slot W)) → length log ≤ SLOTS → Elsewhere (λ _ x. x) (λ o. o) (slots_with k log b.reads) b.writes
   reads-laid log few j x bound ne =
       ap (λ (r : List (Slot W)). record { head = x; reads = r; writes = log_of j x.write_count b.writes }) (other-log b.reads log read-room few j x.read_count ne bound.reads)
 
-  pub writes-laid : (log : List (Slot W)) → length log ≤ 32 → Elsewhere (λ _ x. x) (λ o. o) b.reads (slots_with k log b.writes)
+  pub writes-laid : (log : List (Slot W)) → length log ≤ SLOTS → Elsewhere (λ _ x. x) (λ o. o) b.reads (slots_with k log b.writes)
   writes-laid log few j x bound ne =
       ap (λ (r : List (Slot W)). record { head = x; reads = log_of j x.read_count b.reads; writes = r }) (other-log b.writes log write-room few j x.write_count ne bound.writes)
 

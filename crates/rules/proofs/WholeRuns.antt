@@ -1,6 +1,7 @@
 -- The three laws of every run on a rig that has been set up.
 use Rattle.std.proofs.Common.{◌≡◌, ℕ, ◌≤◌, true, cond, ◌&&◌, leb, Ok, Err, sym, refl, subst}
 use Rattle.std.proofs.lemmas.Bool.{and_parts, leb-true}
+use Rattle.parts.specs.declared.sizes.TheConstants.{MOST_HEADS, MOST_CELLS}
 use Rattle.rules.specs.declared.types.Refusal.TheVariants as refuse
 use Rattle.rules.specs.declared.types.Table.{Table}
 use Rattle.rules.specs.Kit.{Kit}
@@ -17,15 +18,15 @@ use Rattle.rules.proofs.KeptBounds.{bounds-at-set-up}
 use Rattle.rules.proofs.Theorem.{keep_all, gives, new-inv}
 
 -- a rig that is set up has a new table and at most eight heads
-pub set-up-new : (heads count : ℕ) (t : Table) → set_up heads count ≡ Ok t → (t ≡ new_table heads count) × (heads ≤ 8)
+pub set-up-new : (heads count : ℕ) (t : Table) → set_up heads count ≡ Ok t → (t ≡ new_table heads count) × (heads ≤ MOST_HEADS)
 set-up-new heads count t e =
-    by-test (in_range heads count) (λ r. in_range heads count ≡ r → cond r (Ok (new_table heads count)) (Err refuse.OutOfRange) ≡ Ok t → (t ≡ new_table heads count) × (heads ≤ 8))
+    by-test (in_range heads count) (λ r. in_range heads count ≡ r → cond r (Ok (new_table heads count)) (Err refuse.OutOfRange) ≡ Ok t → (t ≡ new_table heads count) × (heads ≤ MOST_HEADS))
     (λ _ r q. (cc, few r)) (λ _ _ q. cc) refl e
   where
-    few : in_range heads count ≡ true → heads ≤ 8
+    few : in_range heads count ≡ true → heads ≤ MOST_HEADS
     few r =
-        let a = and_parts (leb 1 heads && leb heads 8) (leb 1 count && leb count 1024) r in
-        leb-true heads 8 (and_parts (leb 1 heads) (leb heads 8) a.0).1
+        let a = and_parts (leb 1 heads && leb heads MOST_HEADS) (leb 1 count && leb count MOST_CELLS) r in
+        leb-true heads MOST_HEADS (and_parts (leb 1 heads) (leb heads MOST_HEADS) a.0).1
 
 pub laws-of-runs : {W : Type 0} (kit : Kit W) → Lawful kit → LawsOfRuns kit
 laws-of-runs kit law heads count b calls e =

@@ -30,7 +30,7 @@ active_heads (h ∷ heads) = (if is_idle h.state then 0 else 1) + active_heads h
 -- each transaction under way and each commit counted has used up one that was opened
 pub record InBounds (t : Table) : Type 0 where
   pub heads : All HeadBounds t.heads
-  pub eight : length t.heads ≡ RECORDS
+  pub records : length t.heads ≡ RECORDS
   pub few_heads : t.head_count ≤ MOST_HEADS
   pub few_cells : t.cell_count ≤ MOST_CELLS
   -- so empty lists are too short for every rig

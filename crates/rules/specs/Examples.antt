@@ -4,6 +4,7 @@ use Rattle.std.specs.Prelude.{◌≡◌, ℕ, ◌*◌, List, [], ◌∷◌, ◌+
 use Rattle.parts.specs.Words.{same_amount}
 use Rattle.parts.specs.Boards.{stores_line, stores_fit, lines_line, lines_fit, with_margin}
 use Rattle.parts.specs.Policies.{plain_mode}
+use Rattle.parts.specs.declared.policies.TheConstants.{PLAIN_PATIENCE}
 use Rattle.parts.specs.declared.calls.Call.{Call}
 use Rattle.parts.specs.declared.calls.Call.TheVariants.{Open, Read, Write, Close, Push, Jolt, Again, Drop}
 use Rattle.rules.specs.declared.limits.TheConstants.{SLOTS}
@@ -21,13 +22,13 @@ use Rattle.rules.specs.Runs.{answers_of, left_by}
 abbrev pub on_lines : Kit ℤ
 on_lines = record {
   memory = record { same = same_amount; line = lines_line; fits = with_margin lines_fit };
-  policy = record { next = plain_mode; patience = 3 };
+  policy = record { next = plain_mode; patience = PLAIN_PATIENCE };
 }
 
 abbrev pub on_stores : Kit ℤ
 on_stores = record {
   memory = record { same = same_amount; line = stores_line; fits = with_margin stores_fit };
-  policy = record { next = plain_mode; patience = 3 };
+  policy = record { next = plain_mode; patience = PLAIN_PATIENCE };
 }
 
 -- a rig of so many heads and cells that is set up, and the amounts that its cells hold

@@ -129,7 +129,7 @@ pub enum Refusal {
 }
 
 /// The three lists that are lent for a call which changes none of them. A call that changes one takes the three apart.
-#[derive(Clone, Copy, Debug)]
+#[derive(Clone, Copy, Debug, PartialEq, Eq)]
 pub struct Lists<'a, W> {
     pub cells: &'a [W],
     pub reads: &'a [Slot<W>],

@@ -3,6 +3,7 @@ use Rattle.std.specs.Prelude.{ℕ, ℤ, Bool}
 use Rattle.parts.specs.Boards.{stores_line, stores_fit, lines_line, lines_fit, with_margin}
 use Rattle.parts.specs.Policies.{plain_mode, careful_mode}
 use Rattle.parts.specs.Words.{same_amount}
+use Rattle.parts.specs.declared.policies.TheConstants.{PLAIN_PATIENCE, CAREFUL_PATIENCE}
 use Rattle.parts.specs.declared.types.Cause.{Cause}
 use Rattle.parts.specs.declared.types.Mode.{Mode}
 use Rattle.entries.specs.declared.types.BoardName.{BoardName}
@@ -24,8 +25,8 @@ next_named policy.Plain = plain_mode
 next_named policy.Careful = careful_mode
 
 abbrev pub patience_named : PolicyName → ℕ
-patience_named policy.Plain = 3
-patience_named policy.Careful = 16
+patience_named policy.Plain = PLAIN_PATIENCE
+patience_named policy.Careful = CAREFUL_PATIENCE
 
 -- amounts on any board, under a policy by its name
 abbrev pub kit_on : (ℕ → ℕ) → (ℕ → ℕ → Bool) → PolicyName → Kit ℤ
