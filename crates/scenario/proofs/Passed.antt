@@ -1,6 +1,7 @@
 -- A text that is read from a reader, and what is printed of it.
-use Rattle.std.proofs.Common.{◌≡◌, ℕ, List, ◌++◌, ◌+◌, length, take, min, Some, None, Option, refl, sym, subst, ap, ◌∙◌, arith}
+use Rattle.std.proofs.Common.{◌≡◌, ℕ, ◌≤◌, List, [], append-nil, ◌++◌, ◌+◌, length, take, min, Some, None, Option, refl, sym, subst, ap, ◌∙◌, arith}
 use Rattle.std.specs.Option.{IfSome}
+use Rattle.std.specs.Io.KnownBytes.{Consumes, IsAtEnd}
 use Rattle.std.proofs.lemmas.List.{length-take, take_all}
 use Rattle.std.proofs.Math.Seq.{take-append_seam}
 use Rattle.entries.specs.declared.types.Entry.{Entry}
@@ -10,14 +11,20 @@ use Rattle.scenario.specs.Texts.{TextSays, long, empty, lined}
 use Rattle.scenario.specs.Laws.{ReadBack}
 use Rattle.scenario.specs.Streams.{PrintOf}
 
--- what the buffer was filled with, where it has room for 65,537 bytes
-pub first_read : (had : Option (List ℕ)) (room : ℕ) (filled text : List ℕ) → room ≡ LONGEST + 1 → IfSome had (λ bytes. filled ≡ take room bytes) → text ≡ filled → IfSome had (λ bytes. text ≡ take (LONGEST + 1) bytes)
-first_read None room filled text r h t = tt
-first_read (Some bytes) room filled text r h t = t ∙ h ∙ ap (λ n. take n bytes) r
+-- a reader that is at its end has given all that it had, which is no more than is wanted
+pub all_read : (had mid left : Option (List ℕ)) (text : List ℕ) → Consumes had mid text → Consumes mid left [] → IsAtEnd left → length text ≤ LONGEST + 1 → IfSome had (λ bytes. text ≡ take (LONGEST + 1) bytes)
+all_read None mid left text first rest end short = tt
+all_read (Some x) None left text first rest end short = absurd first
+all_read (Some x) (Some y) None text first rest end short = absurd rest
+all_read (Some x) (Some y) (Some z) text first rest end short =
+    let whole : x ≡ text = first ∙ ap (λ l. text ++ l) (rest ∙ end) ∙ append-nil text in
+    sym (ap (take (LONGEST + 1)) whole ∙ take_all (LONGEST + 1) text short)
 
--- the front of a vector whose whole buffer was written
-pub front_kept : (count room : ℕ) (buffer behind text : List ℕ) → text ≡ take count (take room (buffer ++ behind)) → length buffer ≡ room → text ≡ take count buffer
-front_kept count room buffer behind text t same = t ∙ ap (take count) (ap (λ n. take n (buffer ++ behind)) (sym same) ∙ take-append_seam buffer behind)
+-- as many bytes were read as are wanted
+pub enough_read : (had left : Option (List ℕ)) (text : List ℕ) → Consumes had left text → length text ≡ LONGEST + 1 → IfSome had (λ bytes. text ≡ take (LONGEST + 1) bytes)
+enough_read None left text first size = tt
+enough_read (Some x) None text first size = absurd first
+enough_read (Some x) (Some y) text first size = sym (ap (take (LONGEST + 1)) first ∙ ap (λ n. take n (text ++ y)) (sym size) ∙ take-append_seam text y)
 
 -- a text says what its first 65,537 bytes say: with so many it is too long
 pub says_of_first : (text : List ℕ) (es : List Entry) (fault : Option RigFault) → TextSays (take (LONGEST + 1) text) es fault → TextSays text es fault

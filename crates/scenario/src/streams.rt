@@ -34,12 +34,8 @@ impl From<AllocError> for StreamError {
 // One byte more than the longest text that is read: with that many, a text is known to be too long.
 const ENOUGH: usize = LONGEST + 1;
 
-// A buffer of so many bytes.
-fn buffer(heap: Global) -> Result<Vec<u8>, AllocError>
-    ensures { IfOk result (λ buffer. vec_len buffer ≡ LONGEST + 1) }
-{
-    vec![in heap; 0; ENOUGH]
-}
+// The most that is asked for in one read.
+const PIECE: usize = 8 * 1024;
 
 // Reads into the front of a buffer, and returns how many bytes. None are read where there is no room or nothing is left.
 fn read_some<R: Read>(input: &mut R, buffer: &mut [u8]) -> io::Result<usize>
@@ -61,38 +57,25 @@ fn read_some<R: Read>(input: &mut R, buffer: &mut [u8]) -> io::Result<usize>
     Err(io::Error::from(ErrorKind::TimedOut))
 }
 
-// Reads until the buffer is full or nothing is left, and returns how many bytes.
-fn fill<R: Read>(input: &mut R, buffer: &mut [u8]) -> io::Result<usize>
-    ensures within { IfOk result (λ n. n ≤ length buffer.new) }
-    ensures first { IfOk result (λ n. IfSome (R.remaining input.old) (λ bytes. take n buffer.new ≡ take (length buffer.old) bytes)) }
-    ensures lasting { IfErr result Lasting }
-{
-    let mut count = 0;
-    while count < buffer.len() {
-        let read = read_some(input, &mut buffer[count..])?;
-        if read == 0 {
-            return Ok(count);
-        }
-        count += read;
-    }
-    Ok(count)
-}
-
 /// The bytes that a reader has left, at most one more than [`LONGEST`], so that a text which is too long is seen to
 /// be. An error is `NotRead`, the reader's own, or `NoMemory`.
+#[tactic(auto, using(crate::proofs::Passed::enough_read))]
 pub fn read_text<R: Read + Drop>(heap: Global, mut input: R) -> Result<Vec<u8>, StreamError>
     ensures text { IfOk result (λ text. IfSome (R.remaining input) (λ bytes. text.items ≡ take (LONGEST + 1) bytes)) }
     ensures most { IfOk result (λ text. vec_len text ≤ LONGEST + 1) }
     ensures error { IfErr result BeforeWriting }
 {
-    let mut text = buffer(heap)?;
-    match fill(&mut input, text.as_mut_slice()) {
-        Ok(count) => {
-            text.truncate(count);
-            Ok(text)
+    let mut text = Vec::with_capacity(heap, ENOUGH)?;
+    let mut piece = [0; PIECE];
+    while text.len() < ENOUGH {
+        let room = PIECE.min(ENOUGH - text.len());
+        match read_some(&mut input, &mut piece[..room]) {
+            Ok(0) => return Ok(text),
+            Ok(n) => text.extend_from_slice(&piece[..n])?,
+            Err(e) => return Err(StreamError::NotRead(e)),
         }
-        Err(e) => Err(StreamError::NotRead(e)),
     }
+    Ok(text)
 }
 
 // Writes the first of the bytes, and returns how many. An error leaves the writer as it was.

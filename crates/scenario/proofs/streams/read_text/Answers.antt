@@ -1,9 +1,9 @@
-use Rattle.std.proofs.Common.{◌≡◌, length, ◌∙◌}
-use Rattle.scenario.proofs.Passed.{first_read, front_kept}
+use Rattle.std.proofs.Common.{rules}
+use Rattle.scenario.proofs.Passed.{all_read}
 use Rattle.scenario.proofs.streams.read_text.Goals as goal
 
-pub returns-in-Ok-clause-text : goal.returns-in-Ok-clause-text
-returns-in-Ok-clause-text g c =
-    let room = c.as_mut_slice.ensures.len in
-    let kept : length c.fill.new.buffer ≡ length c.as_mut_slice.result.now = c.fill.auto.buffer in
-    first_read _ _ _ _ (room ∙ c.in_ok-text.ensures) c.in-Ok.ensures.first (front_kept _ _ _ _ _ c.truncate.ensures.items (kept ∙ room))
+pub returns-in-Ok-eq0-clause-text : goal.returns-in-Ok-eq0-clause-text
+returns-in-Ok-eq0-clause-text g c =
+    let read = c.in-Ok-eq0.ensures in
+    let (short, taken) = c.loop-piece.invariant in
+    all_read _ _ (g.R.Read.remaining c.read_some.new.input) c.loop-piece.text.items taken (search rules) (search rules) (search rules)
