@@ -107,6 +107,7 @@ fn decide<W: Word>(state: State, call: Call<u32, W>) -> Result<Transition<W>, Re
 
 // The head that calls, and what the call does, unless a list has a wrong length, there is no such head or cell, the handle
 // is stale, or the head's state does not take the call.
+#[inline(always)]
 pub(crate) fn admit<W: Word>(
     table: &Table,
     who: Caller,

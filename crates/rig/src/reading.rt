@@ -99,22 +99,19 @@ fn read_in_software<B: Board, W: Word>(
         reads,
         writes,
     };
-    match revalidate(table, who.head, lists) {
-        Validation::Changed(loaded) => {
-            let access = Loads {
-                log: loaded,
-                cell: None,
-            };
-            abort_hit(&mut table.heads, who.head, board, &access, lists);
+    // the cell is loaded if nothing that was read has changed
+    let (log, to_load) = match revalidate(table, who.head, lists) {
+        Validation::Valid(log) => (log, Some(cell)),
+        Validation::Changed(log) => (log, None),
+    };
+    let access = Loads { log, cell: to_load };
+    abort_hit(&mut table.heads, who.head, board, &access, lists);
+    match to_load {
+        None => {
             table.heads[who.head as usize] = abort(me, Cause::Changed);
             Err(Refusal::Aborted(Cause::Changed))
         }
-        Validation::Valid(loaded) => {
-            let access = Loads {
-                log: loaded,
-                cell: Some(cell),
-            };
-            abort_hit(&mut table.heads, who.head, board, &access, lists);
+        Some(_) => {
             let snapshot = present_snapshot(table);
             let word = cells[cell as usize];
             let read_count = note_word(reads, who.head, me.read_count, cell, word);
