@@ -4,7 +4,7 @@ ghost use Rattle.cases.specs.Edges.{EdgeCasesHold};
 
 use parts::{Careful, LinesBoard, Margin, Plain, Rate, StoresBoard};
 
-// Each case comes out as its row says: by the rule book, which binds every call of the rig, and on these boards and policies.
+/// Each case comes out as its row says: by the rule book, which binds every call of the rig, and on these boards and policies.
 pub fn edge_cases_stand(
     stores: &Margin<StoresBoard>,
     lines: &Margin<LinesBoard>,

@@ -7,14 +7,14 @@ mod calls;
 use calls::{opens_and_drops, shown};
 use entries::HeadCall;
 use parts::{LinesBoard, Margin, Plain, Size};
-use rules::{MadeCall, Slot};
+use rules::{MOST_TRANSACTIONS, MadeCall, SLOTS, Slot};
 use runs::{Answer, SetUp, run};
 use sheets::{CellRow, Row};
 use std::alloc::Global;
 use std::io;
 
 // Opened and dropped before the calls that are shown.
-const BEFORE: usize = 59_998;
+const BEFORE: usize = MOST_TRANSACTIONS as usize - 2;
 
 // Prints the calls from a place on, each with its answer.
 fn print_rows(
@@ -41,8 +41,8 @@ fn main(rt: HostRuntime) -> io::Result<()> {
     calls.extend_from_slice(&shown())?;
     let slot = Slot { cell: 0, word: 0 };
     let mut cells = [0_i32];
-    let mut reads = [slot; 64];
-    let mut writes = [slot; 64];
+    let mut reads = [slot; 2 * SLOTS];
+    let mut writes = [slot; 2 * SLOTS];
     let from = SetUp {
         size: Size { heads: 2, cells: 1 },
         board: Margin { below: LinesBoard },

@@ -4,6 +4,10 @@ use Rattle.std.specs.Prelude.{◌≡◌, ℕ, ◌%◌, Bool, true, false, List, 
 use Rattle.rules.specs.declared.types.Slot.{Slot}
 use Rattle.rules.specs.Logs.{touches}
 
+-- the most slots of a log that has them by a count of 8 bits
+abbrev pub most_counted : ℕ
+most_counted = 255
+
 module _ {W : Type 0} (line : ℕ → ℕ) where
   -- whether a cell of the one log is on the line of one of the other's
   abbrev pub shares_line : List (Slot W) → List (Slot W) → Bool

@@ -1,7 +1,7 @@
 // Lines touched by an attempt.
-ghost use Rattle.std.specs.Prelude.{◌≡◌, ◌+◌, ◌++◌, not, ◌||◌, ◌≤◌, drop, length};
+ghost use Rattle.std.specs.Prelude.{◌≡◌, ◌+◌, ◌*◌, ◌++◌, not, ◌||◌, ◌≤◌, drop, length};
 ghost use Rattle.rules.specs.Logs.{touches, lines_of, distinct_count, lines_touched, lines_touched_with};
-ghost use Rattle.logs.specs.Lines.{Marked};
+ghost use Rattle.logs.specs.Lines.{Marked, most_counted};
 
 use crate::log::Log;
 use parts::{Board, Word};
@@ -49,10 +49,10 @@ fn count_beside<W: Word, B: Board>(
 ) -> u16
     requires counted { count ≡ distinct_count (lines_of (B.Board.line board.now) other.now) }
     requires marked { Marked (B.Board.line board.now) marks.old other.now }
-    requires few { count ≤ 255 }
+    requires few { count ≤ most_counted }
     ensures count { result ≡ distinct_count (lines_of (B.Board.line board.now) (log.now ++ other.now)) }
     ensures marked { Marked (B.Board.line board.now) marks.new (log.now ++ other.now) }
-    ensures bound { result ≤ count + 255 }
+    ensures bound { result ≤ count + most_counted }
 {
     let mut count = count;
     let slots = log.slots();
@@ -77,7 +77,7 @@ fn count_lines<W: Word, B: Board>(
 ) -> u16
     ensures count { result ≡ lines_touched (B.Board.line board.now) reads.now writes.now }
     ensures marked { Marked (B.Board.line board.now) marks.new (reads.now ++ writes.now) }
-    ensures bound { result ≤ 510 }
+    ensures bound { result ≤ 2 * most_counted }
 {
     let none = writes.range(0, 0);
     let count = count_beside(board, writes, &none, 0, marks);
@@ -87,7 +87,7 @@ fn count_lines<W: Word, B: Board>(
 /// The number of different lines among the cells of both logs.
 pub fn lines_touched<W: Word, B: Board>(board: &B, reads: &Log<'_, W>, writes: &Log<'_, W>) -> u16
     ensures count { result ≡ lines_touched (B.Board.line board.now) reads.now writes.now }
-    ensures bound { result ≤ 510 }
+    ensures bound { result ≤ 2 * most_counted }
 {
     let mut marks = [false; 64];
     count_lines(board, reads, writes, &mut marks)

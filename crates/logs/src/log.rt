@@ -2,7 +2,7 @@
 ghost use Rattle.std.specs.Prelude.{◌≡◌, ◌≤◌, ◌==◌, length, min, nat_le, take, drop};
 ghost use Rattle.std.specs.List.{position};
 ghost use Rattle.rules.specs.Logs.{log_of, word_for, lacks_room_for, touches, is_empty, put_in};
-ghost use Rattle.logs.specs.Lines.{shares_line};
+ghost use Rattle.logs.specs.Lines.{most_counted, shares_line};
 
 use parts::{Board, Word};
 use rules::{SLOTS, Slot};
@@ -18,6 +18,7 @@ pub struct Log<'a, W> {
 impl<'a, W> Model for Log<'a, W> {
     ghost use Rattle.std.specs.Prelude.{◌≤◌, List, length, take};
     ghost use Rattle.rules.specs.declared.types.Slot.{Slot};
+    ghost use Rattle.logs.specs.Lines.{most_counted};
 
     // the slots of the log
     ghost Value = { List (Slot W) };
@@ -25,7 +26,7 @@ impl<'a, W> Model for Log<'a, W> {
     ghost view = { λ l. take l.count l.part.now };
 
     // a count has 8 bits
-    ghost invariant = { λ l. (l.count ≤ length l.part.now) × (l.count ≤ 255) };
+    ghost invariant = { λ l. (l.count ≤ length l.part.now) × (l.count ≤ most_counted) };
 }
 
 // The slots from a place on.
@@ -48,7 +49,7 @@ impl<'a, W: Word> Log<'a, W> {
     /// The slots of the log.
     pub fn slots(&self) -> &'a [Slot<W>]
         ensures slots { result.now ≡ self.now }
-        ensures few { length result.now ≤ 255 }
+        ensures few { length result.now ≤ most_counted }
     {
         &self.part[..self.count]
     }

@@ -25,10 +25,13 @@ pub trait Calls<W: Word>: Iterator<Item = MadeCall<W>> {
     fn left(&self) -> usize
         ensures { result ≡ length (made self.now) };
 
+    // it can be asked for the next call at any time
     ghost ready: { (calls : Self) → Self.can_next calls };
 
+    // it comes to an end
     ghost ends: { (calls : Self) → IsFinite (Self.remaining calls) };
 
+    // each call that `next` gives is the first of those that are still to come
     ghost in_order: { (calls rest : Self) (call : Option (Made W)) → Self.next_gives calls call rest → YieldsFirst made calls call rest };
 }
 
@@ -47,7 +50,7 @@ impl<'a, W: Word> Calls<W> for Copied<Iter<'a, MadeCall<W>>> {
 }
 
 /// What a rig is set up from.
-#[derive(Drop)]
+#[derive(Debug, Drop, PartialEq, Eq)]
 pub struct SetUp<B, P> {
     pub size: Size,
     pub board: B,

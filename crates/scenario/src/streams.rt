@@ -58,7 +58,8 @@ fn read_some<R: Read>(input: &mut R, buffer: &mut [u8]) -> io::Result<usize>
 }
 
 /// The bytes that a reader has left, at most one more than [`LONGEST`], so that a text which is too long is seen to
-/// be. An error is `NotRead`, the reader's own, or `NoMemory`.
+/// be. An error is `NoMemory`, or `NotRead`: the reader's own, or `TimedOut` where it is interrupted without end, that is
+/// in 2^64 - 1 calls one after another.
 #[tactic(auto, using(crate::proofs::Passed::enough_read))]
 pub fn read_text<R: Read + Drop>(heap: Global, mut input: R) -> Result<Vec<u8>, StreamError>
     ensures text { IfOk result (λ text. IfSome (R.remaining input) (λ bytes. text.items ≡ take (LONGEST + 1) bytes)) }
@@ -101,8 +102,8 @@ fn write_some<W: Write>(output: &mut W, bytes: &[u8]) -> io::Result<usize>
     Err(io::Error::from(ErrorKind::TimedOut))
 }
 
-/// Adds a text to what a writer holds. An error is the writer's own, or `WriteZero` where it takes no byte; some of the
-/// text may be written by then.
+/// Adds a text to what a writer holds. An error is the writer's own, or `WriteZero` where it takes no byte, or `TimedOut`
+/// where it is interrupted without end, that is in 2^64 - 1 calls one after another; some of the text may be written by then.
 pub fn write_text<W: Write>(output: &mut W, text: &str) -> io::Result<()>
     ensures { Written result (W.contents output.old) (W.contents output.new) text.now }
 {

@@ -22,8 +22,8 @@ fn fault_at(end: Result<(), ReadError>) -> Result<Option<RigFault>, AllocError>
     }
 }
 
-// The run sheet of a text: its calls up to the first fault, each with the answer that the rule book gives, and then the
-// cells that are left, or the fault.
+/// The run sheet of a text: its calls up to the first fault, each with the answer that the rule book gives, and then the
+/// cells that are left, or the fault.
 pub fn run_sheet(heap: Global, text: &[u8]) -> Result<String, AllocError>
     ensures says { IfOk result (λ out. SheetOf text.now (string_bytes out)) }
     ensures once { SheetOnce }
