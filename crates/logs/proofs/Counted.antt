@@ -7,7 +7,7 @@ use Rattle.std.proofs.lemmas.Grind.{get_or-set_at}
 use Rattle.std.proofs.lemmas.Bool.{eqb-true, eqb-false}
 use Rattle.rules.specs.declared.types.Slot.{Slot}
 use Rattle.rules.specs.Logs.{touches, lines_of, distinct_count}
-use Rattle.rules.proofs.Basics.{by-test, wrong}
+use Rattle.rules.proofs.Basics.{by-test}
 use Rattle.logs.specs.Lines.{Marked}
 
 turned : (b v : Bool) → not b ≡ v → b ≡ not v
