@@ -6,6 +6,7 @@ use Rattle.parts.specs.declared.types.Rate.{Rate}
 use Rattle.parts.specs.declared.types.Rate.TheVariants.{PerKilogram, PerPiece}
 use Rattle.rules.specs.declared.types.Refusal.{Refusal}
 use Rattle.rules.specs.declared.types.Table.{Table}
+use Rattle.rules.specs.declared.limits.TheConstants.{MOST_TRANSACTIONS, MOST_ATTEMPTS}
 use Rattle.rules.specs.Kit.{Kit}
 use Rattle.rules.specs.Bench.{Bench}
 use Rattle.rules.specs.Calls.{set_up}
@@ -134,3 +135,7 @@ module _ (stores lines careful : Kit ℤ) (same : Rate → Rate → Bool) where
   -- all of them
   abbrev pub EdgeCasesHold : Type 0
   EdgeCasesHold = All Holds edge_cases
+
+-- the most transactions and the most attempts, to which no row comes
+abbrev pub MostAreRight : Type 0
+MostAreRight = (MOST_TRANSACTIONS ≡ 60000) × (MOST_ATTEMPTS ≡ 70000)

@@ -38,7 +38,7 @@ pub enum Pushed {
 }
 
 impl Pushed {
-    /// The number that the push returns: 0, as of every granted call but a close that is to be pushed.
+    /// The number that the push returns: 0, as every granted call but a close whose writes are still to be pushed.
     pub fn number(&self) -> u8
         ensures { result ≡ pushed_number self.now }
     {

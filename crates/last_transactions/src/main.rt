@@ -7,14 +7,14 @@ mod calls;
 use calls::{opens_and_drops, shown};
 use entries::HeadCall;
 use parts::{LinesBoard, Margin, Plain, Size};
-use rules::{MOST_TRANSACTIONS, MadeCall, SLOTS, Slot};
+use rules::{MadeCall, SLOTS, Slot};
 use runs::{Answer, SetUp, run};
 use sheets::{CellRow, Row};
 use std::alloc::Global;
 use std::io;
 
-// Opened and dropped before the calls that are shown.
-const BEFORE: usize = MOST_TRANSACTIONS as usize - 2;
+// Opened and dropped before the calls that are shown. A number of its own, so that another most shows in what is printed.
+const BEFORE: usize = 59_998;
 
 // Prints the calls from a place on, each with its answer.
 fn print_rows(
