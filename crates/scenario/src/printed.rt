@@ -2,7 +2,7 @@
 ghost use Rattle.std.specs.Prelude.{◌≡◌, ◌≤◌, length, IfOk, Ok, string_bytes};
 ghost use Rattle.faults.specs.declared.texts.TheConstants.{LONGEST};
 ghost use Rattle.scenario.specs.Holdings.{entries_of};
-ghost use Rattle.scenario.specs.Laws.{ReadBack, SaysExactly};
+ghost use Rattle.scenario.specs.Laws.{ReadBack, RenderedSays, SaysExactly};
 ghost use Rattle.scenario.specs.Texts.{TextOnce};
 ghost use Rattle.scenario.specs.Steps.{Told};
 
@@ -44,6 +44,7 @@ impl Scenario {
 pub fn readback(heap: Global, text: &[u8]) -> Result<String, AllocError>
     ensures says { IfOk result (λ out. ReadBack text.now (string_bytes out)) }
     ensures once { TextOnce }
+    ensures inverse { RenderedSays }
     ensures exact { SaysExactly }
 {
     let Reading { scenario, end } = read(heap, text);
